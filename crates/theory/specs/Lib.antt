@@ -1,2 +1,10 @@
 pub mod Kinds
 pub mod Orders
+pub mod Lists
+pub mod Families
+pub mod Layouts
+pub mod Sequence
+pub mod Nullable
+pub mod Totals
+pub mod Tables
+pub mod Numbers

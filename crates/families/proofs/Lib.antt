@@ -1,0 +1,4 @@
+mod Digits
+mod Lookups
+mod Each
+mod Resolves

@@ -1,0 +1,11 @@
+// Drafts.
+use crate::grammar::Grammar;
+use crate::reader::Reader;
+
+// What reading a file gives: its rules, with each name that is used by its number. The reader's memory is reserved
+// with the draft's, so that reading needs none.
+#[derive(Drop)]
+pub struct Draft {
+    pub(crate) grammar: Grammar,
+    pub(crate) reader: Reader,
+}

@@ -1,0 +1,13 @@
+pub mod Lists
+pub mod Orders
+pub mod Items
+pub mod Members
+pub mod Sums
+pub mod Ranks
+pub mod Agreement
+pub mod Sequence
+pub mod Depth
+pub mod Nullable
+pub mod Totals
+pub mod Tables
+pub mod Numbers
