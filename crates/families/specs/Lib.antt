@@ -6,4 +6,5 @@ pub mod Grammars
 pub mod States
 pub mod Steps
 pub mod Files
+pub mod Models
 pub mod Adopts

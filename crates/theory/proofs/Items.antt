@@ -9,9 +9,24 @@ use lib.ListN.{length, getD, take, drop, length-append}
 use Rattle.std.specs.Joined.{joined}
 use Rattle.std.proofs.shelf.Tests.{cases-lt}
 use Rattle.theory.specs.Families.{
-  Item, name, literal, Family, alternatives, alternative, Known, Defined, tails, all-tails, item-count, tail-at, items-in, items-under, first-item, ItemAt, Items-numbered,
+  Item,
+  name,
+  literal,
+  Family,
+  alternatives,
+  alternative,
+  Known,
+  Defined,
+  tails,
+  all-tails,
+  item-count,
+  tail-at,
+  items-in,
+  items-under,
+  first-item,
+  ItemAt,
+  Items-numbered,
 }
-use Rattle.theory.specs.Totals.{count}
 
 -- what is left behind a front
 pub drop-front : {A : Type 0} (xs ys : List A) (n m : ℕ) → m ≡ length xs + n → drop m (xs ++ ys) ≡ drop n ys
@@ -32,6 +47,41 @@ length-all (is ∷ alts) = length-append (tails is) (joined tails alts) ∙ ap�
 pub item-count-is : (F : Family) → item-count F ≡ items-under F
 item-count-is [] = refl
 item-count-is (alts ∷ F) = length-append (joined tails alts) (all-tails F) ∙ ap₂ _+_ (length-all alts) (item-count-is F)
+
+-- the first items of the alternatives one after another
+
+pub first-item-zero : (F : Family) → first-item F 0 0 ≡ 0
+first-item-zero F = refl
+
+items-more : (alts : List (List Item)) (a : ℕ) → a < length alts → items-in (take (suc a) alts) ≡ items-in (take a alts) + length (getD alts a [])
+items-more [] a h = absurd (not-suc-le-zero h)
+items-more (is ∷ alts) zero h = omega arith
+items-more (is ∷ alts) (suc a) h = omega (arith, items-more alts a (le-of-suc-le-suc h))
+
+items-whole : (alts : List (List Item)) → items-in (take (length alts) alts) ≡ items-in alts
+items-whole [] = refl
+items-whole (is ∷ alts) = ap (λ n. length is + n) (items-whole alts)
+
+under-more : (F : Family) (y : ℕ) → y < length F → items-under (take (suc y) F) ≡ items-under (take y F) + items-in (alternatives F y)
+under-more [] y h = absurd (not-suc-le-zero h)
+under-more (alts ∷ F) zero h = omega arith
+under-more (alts ∷ F) (suc y) h = omega (arith, under-more F y (le-of-suc-le-suc h))
+
+-- the next alternative begins behind this one's items
+pub first-item-next : (F : Family) (y a : ℕ) → a < length (alternatives F y) → first-item F y (suc a) ≡ first-item F y a + length (alternative F y a)
+first-item-next F y a h = omega (arith, items-more (alternatives F y) a h)
+
+-- and the next name's first one behind this one's last
+pub first-item-name : (F : Family) (y : ℕ) → y < length F → first-item F (suc y) 0 ≡ first-item F y (length (alternatives F y))
+first-item-name F y h = omega (arith, under-more F y h, items-whole (alternatives F y))
+
+pub items-in-++ : (xs ys : List (List Item)) → items-in (xs ++ ys) ≡ items-in xs + items-in ys
+items-in-++ [] ys = sym (zero-add (items-in ys))
+items-in-++ (is ∷ xs) ys = omega (arith, items-in-++ xs ys)
+
+pub items-under-++ : (F G : Family) → items-under (F ++ G) ≡ items-under F + items-under G
+items-under-++ [] G = sym (zero-add (items-under G))
+items-under-++ (alts ∷ F) G = omega (arith, items-under-++ F G)
 
 -- the list begins with the tails of the items
 abbrev pub Begins : List (List Item) → List Item → Type 0
@@ -55,8 +105,8 @@ begins-alternative (is ∷ alts) zero ts h = subst (λ (l : List (List Item)). B
 begins-alternative (is ∷ alts) (suc a) ts h =
     let n = items-in (take a alts) in
     subst (λ (l : List (List Item)). Begins l (getD alts a []))
-      (sym (ap (drop (length is + n)) (append-assoc (tails is) (joined tails alts) ts) ∙ drop-front (tails is) (joined tails alts ++ ts) n (length is + n) (ap (λ x. x + n) (sym (length-tails is)))))
-      (begins-alternative alts a ts (le-of-suc-le-suc h))
+    (sym (ap (drop (length is + n)) (append-assoc (tails is) (joined tails alts) ts) ∙ drop-front (tails is) (joined tails alts ++ ts) n (length is + n) (ap (λ x. x + n) (sym (length-tails is)))))
+    (begins-alternative alts a ts (le-of-suc-le-suc h))
 
 pub begins-name : (F : Family) (y a : ℕ) → a < length (alternatives F y) → Begins (drop (first-item F y a) (all-tails F)) (alternative F y a)
 begins-name [] y a h = absurd (not-suc-le-zero h)
@@ -64,8 +114,8 @@ begins-name (alts ∷ F) zero a h =
     subst (λ (n : ℕ). Begins (drop n (joined tails alts ++ all-tails F)) (getD alts a [])) (sym (zero-add (items-in (take a alts)))) (begins-alternative alts a (all-tails F) h)
 begins-name (alts ∷ F) (suc y) a h =
     subst (λ (l : List (List Item)). Begins l (alternative F y a))
-      (sym (drop-front (joined tails alts) (all-tails F) (first-item F y a) (first-item (alts ∷ F) (suc y) a) (add-assoc (items-in alts) (items-under (take y F)) (items-in (take a (alternatives F y))) ∙ ap (λ x. x + first-item F y a) (sym (length-all alts)))))
-      (begins-name F y a h)
+    (sym (drop-front (joined tails alts) (all-tails F) (first-item F y a) (first-item (alts ∷ F) (suc y) a) (add-assoc (items-in alts) (items-under (take y F)) (items-in (take a (alternatives F y))) ∙ ap (λ x. x + first-item F y a) (sym (length-all alts)))))
+    (begins-name F y a h)
 
 -- at each of its places the list of all tails begins with the tails of the tail there
 
@@ -106,12 +156,12 @@ begins-at ts j (suc p) (i ∷ is) b h =
     (subst (λ (n : ℕ). n < length ts) e (r .0), ap (λ n. getD ts n []) (sym e) ∙ r .1)
 
 -- a place in an alternative that there is
-some-alternative : (alts : List (List Item)) (a p : ℕ) → p < length (getD alts a []) → a < length alts
+pub some-alternative : (alts : List (List Item)) (a p : ℕ) → p < length (getD alts a []) → a < length alts
 some-alternative [] a p h = absurd (not-suc-le-zero h)
 some-alternative (is ∷ alts) zero p h = omega arith
 some-alternative (is ∷ alts) (suc a) p h = let t = some-alternative alts a p h in omega arith
 
-some-name : (F : Family) (y a : ℕ) → a < length (alternatives F y) → y < length F
+pub some-name : (F : Family) (y a : ℕ) → a < length (alternatives F y) → y < length F
 some-name [] y a h = absurd (not-suc-le-zero h)
 some-name (alts ∷ F) zero a h = omega arith
 some-name (alts ∷ F) (suc y) a h = let t = some-name F y a h in omega arith
@@ -127,7 +177,7 @@ in-alternatives (is ∷ alts) j h =
     split (cases-lt j (length is)) (λ l. in-alternatives alts (j - length is) l)
   where
     split : (j < length is) ⊎ (length is ≤ j) → (j - length is < items-in alts → (a : ℕ) × (p : ℕ) × (p < length (getD alts a [])) × (j - length is ≡ items-in (take a alts) + p)) →
-      (a : ℕ) × (p : ℕ) × (p < length (getD (is ∷ alts) a [])) × (j ≡ items-in (take a (is ∷ alts)) + p)
+        (a : ℕ) × (p : ℕ) × (p < length (getD (is ∷ alts) a [])) × (j ≡ items-in (take a (is ∷ alts)) + p)
     split (inl l) more = (0, j, l, sym (zero-add j))
     split (inr l) more = let t = more (omega arith) in let e = t .3 in (suc (t .0), t .1, t .2, omega arith)
 
@@ -137,7 +187,7 @@ in-family (alts ∷ F) j h =
     split (cases-lt j (items-in alts)) (λ l. in-family F (j - items-in alts) l)
   where
     split : (j < items-in alts) ⊎ (items-in alts ≤ j) → (j - items-in alts < items-under F → (y : ℕ) × (a : ℕ) × (p : ℕ) × (p < length (alternative F y a)) × (j - items-in alts ≡ first-item F y a + p)) →
-      (y : ℕ) × (a : ℕ) × (p : ℕ) × (p < length (alternative (alts ∷ F) y a)) × (j ≡ first-item (alts ∷ F) y a + p)
+        (y : ℕ) × (a : ℕ) × (p : ℕ) × (p < length (alternative (alts ∷ F) y a)) × (j ≡ first-item (alts ∷ F) y a + p)
     split (inl l) more = let t = in-alternatives alts j l in let e = t .3 in (0, t .0, t .1, t .2, omega arith)
     split (inr l) more = let t = more (omega arith) in let e = t .4 in (suc (t .0), t .1, t .2, t .3, omega arith)
 
@@ -146,10 +196,10 @@ items-numbered F = record {
   count = item-count-is F;
   number = item-at F;
   place = λ j h.
-    let t = in-family F j (subst (λ (n : ℕ). j < n) (item-count-is F) h) in
-    let b = some-alternative (alternatives F (t .0)) (t .1) (t .2) (t .3) in
-    let e = t .4 in
-    (t .0, t .1, t .2, some-name F (t .0) (t .1) b, b, t .3, subst (ItemAt F (t .0) (t .1) (t .2)) (sym e) (item-at F (t .0) (t .1) (t .2) (t .3)));
+      let t = in-family F j (subst (λ (n : ℕ). j < n) (item-count-is F) h) in
+      let b = some-alternative (alternatives F (t .0)) (t .1) (t .2) (t .3) in
+      let e = t .4 in
+      (t .0, t .1, t .2, some-name F (t .0) (t .1) b, b, t .3, subst (ItemAt F (t .0) (t .1) (t .2)) (sym e) (item-at F (t .0) (t .1) (t .2) (t .3)));
 }
 
 -- the names of a tail are defined

@@ -1,9 +1,11 @@
 pub mod Lists
 pub mod Orders
 pub mod Items
+pub mod Joins
 pub mod Members
 pub mod Sums
 pub mod Ranks
+pub mod Sweeps
 pub mod Agreement
 pub mod Sequence
 pub mod Depth

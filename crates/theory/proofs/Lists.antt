@@ -171,9 +171,9 @@ module _ {A : Type 0} (f : ℕ → List A) where
   length-piece (suc c) j z h w =
       let m = length-pieces-more c in
       ⊎-elim
-        (λ (l : j < c). omega (arith, length-piece c j z l w))
-        (λ (l : c ≤ j). let e : j ≡ c = omega arith in let q : length (f j) ≡ length (f c) = ap (λ x. length (f x)) e in let r : length (joined f (below j)) ≡ length (joined f (below c)) = ap (λ x. length (joined f (below x))) e in omega arith)
-        (cases-lt j c)
+      (λ (l : j < c). omega (arith, length-piece c j z l w))
+      (λ (l : c ≤ j). let e : j ≡ c = omega arith in let q : length (f j) ≡ length (f c) = ap (λ x. length (f x)) e in let r : length (joined f (below j)) ≡ length (joined f (below c)) = ap (λ x. length (joined f (below x))) e in omega arith)
+      (cases-lt j c)
 
   -- each place is in one of the pieces
   pub piece-of : (c x : ℕ) → x < length (joined f (below c)) → (j : ℕ) × (z : ℕ) × (j < c) × (z < length (f j)) × (x ≡ length (joined f (below j)) + z)
@@ -181,6 +181,6 @@ module _ {A : Type 0} (f : ℕ → List A) where
   piece-of (suc c) x h = split (cases-lt x (length (joined f (below c)))) (λ l. piece-of c x l)
     where
       split : (x < length (joined f (below c))) ⊎ (length (joined f (below c)) ≤ x) → (x < length (joined f (below c)) → (j : ℕ) × (z : ℕ) × (j < c) × (z < length (f j)) × (x ≡ length (joined f (below j)) + z)) →
-        (j : ℕ) × (z : ℕ) × (j < suc c) × (z < length (f j)) × (x ≡ length (joined f (below j)) + z)
+          (j : ℕ) × (z : ℕ) × (j < suc c) × (z < length (f j)) × (x ≡ length (joined f (below j)) + z)
       split (inl l) more = let t = more l in let u = t .2 in (t .0, t .1, omega arith, t .3, t .4)
       split (inr l) more = let m = length-pieces-more c in (c, x - length (joined f (below c)), omega arith, omega arith, omega arith)

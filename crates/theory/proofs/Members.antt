@@ -89,6 +89,7 @@ module _ (S : ℕ → List ℕ) (law : Splits S) (F : Family) (L : ℕ → ℕ �
       where
         g : T (eqb k s) × (p ≡ plain)
         g = kept (eqb k s) p plain h
+
         at : (q : Layout) → q ≡ plain → LayoutOf F (literal x s c) k q
         at q e = subst (LayoutOf F (literal x s c) k) (sym e) (record { valid = tt; sized = sym (eqb→eq k s (g .0)) })
     item-sound (name y) k p h = sound y k p h
@@ -117,10 +118,10 @@ module _ (S : ℕ → List ℕ) (law : Splits S) (F : Family) (L : ℕ → ℕ �
           distinct-joined (λ k. pairs (item-layouts L i k) (forests S L is (n - k))) (S n) (law .once n)
           (λ k h. distinct-pairs (item-layouts L i k) (forests S L is (n - k)) (item-distinct i k) (forests-distinct is (n - k)))
           (λ k l t h g a b.
-            let c = pairs-among t (item-layouts L i k) (forests S L is (n - k)) a in
-            let d = pairs-among t (item-layouts L i l) (forests S L is (n - l)) b in
-            let e = join-first (c .0) (d .0) (c .1) (d .1) (sym (c .4) ∙ d .4) in
-            sym (item-sound i k (c .0) (c .2) .sized) ∙ ap (size F i) e ∙ item-sound i l (d .0) (d .2) .sized)
+          let c = pairs-among t (item-layouts L i k) (forests S L is (n - k)) a in
+          let d = pairs-among t (item-layouts L i l) (forests S L is (n - l)) b in
+          let e = join-first (c .0) (d .0) (c .1) (d .1) (sym (c .4) ∙ d .4) in
+          sym (item-sound i k (c .0) (c .2) .sized) ∙ ap (size F i) e ∙ item-sound i l (d .0) (d .2) .sized)
 
 -- what is joined is no deeper than the whole
 
@@ -133,7 +134,7 @@ rest-shallow plain r d h = h
 rest-shallow (chosen a u) r d h = omega arith
 
 module _ (S : ℕ → List ℕ) (law : Splits S) (F : Family) (L : ℕ → ℕ → List Layout) (d : ℕ)
-  (complete : (y k : ℕ) (p : Layout) → LayoutOf F (name y) k p → depth p ≤ d → Among p (L y k)) where
+    (complete : (y k : ℕ) (p : Layout) → LayoutOf F (name y) k p → depth p ≤ d → Among p (L y k)) where
   item-complete : (i : Item) (k : ℕ) (p : Layout) → LayoutOf F i k p → depth p ≤ d → Among p (item-layouts L i k)
   item-complete (literal x s c) k plain f h = keep (eqb k s) plain (subst (λ (x : ℕ). T (eqb x s)) (f .sized) (eqb-refl s))
   item-complete (literal x s c) k (chosen a u) f h = absurd (f .valid)
@@ -175,10 +176,10 @@ module _ (S : ℕ → List ℕ) (law : Splits S) (F : Family) where
       distinct-joined (λ a. map (chosen a) (forests S (layouts-within S F d) (alternative F y a) n)) (below (length (alternatives F y))) (distinct-count 0 (length (alternatives F y)))
       (λ a h. distinct-map (chosen a) (forests S (layouts-within S F d) (alternative F y a) n) (λ u v e. cc) (forests-distinct S law F (layouts-within S F d) (within-sound d) (within-distinct d) (alternative F y a) n))
       (λ a b p h g k l.
-        let c = map-among (chosen a) p (forests S (layouts-within S F d) (alternative F y a) n) k in
-        let e = map-among (chosen b) p (forests S (layouts-within S F d) (alternative F y b) n) l in
-        let q : chosen a (c .0) ≡ chosen b (e .0) = sym (c .2) ∙ e .2 in
-        cc)
+      let c = map-among (chosen a) p (forests S (layouts-within S F d) (alternative F y a) n) k in
+      let e = map-among (chosen b) p (forests S (layouts-within S F d) (alternative F y b) n) l in
+      let q : chosen a (c .0) ≡ chosen b (e .0) = sym (c .2) ∙ e .2 in
+      cc)
 
   pub within-complete : (d y n : ℕ) (p : Layout) → LayoutOf F (name y) n p → depth p ≤ d → Among p (layouts-within S F d y n)
   unfolding layouts-within
@@ -188,4 +189,4 @@ module _ (S : ℕ → List ℕ) (law : Splits S) (F : Family) where
       among-joined (λ b. map (chosen b) (forests S (layouts-within S F d) (alternative F y b) n)) a (chosen a u) (below (length (alternatives F y)))
       (among-count 0 (length (alternatives F y)) a (omega arith) (omega (arith, f .valid .0)))
       (among-map (chosen a) u (forests S (layouts-within S F d) (alternative F y a) n)
-        (forests-complete S law F (layouts-within S F d) d (within-complete d) (alternative F y a) n u (record { valid = f .valid .1; sized = f .sized }) (le-of-suc-le-suc h)))
+      (forests-complete S law F (layouts-within S F d) d (within-complete d) (alternative F y a) n u (record { valid = f .valid .1; sized = f .sized }) (le-of-suc-le-suc h)))

@@ -11,7 +11,7 @@ use Rattle.theory.specs.Lists.{Among}
 use Rattle.theory.specs.Families.{Item, name, literal, Family, alternative}
 use Rattle.theory.specs.Layouts.{Forest, end, Layout, plain, chosen, join, ForestOf, LayoutOf}
 use Rattle.theory.specs.Sequence.{layouts, ListsLayouts}
-use Rattle.theory.specs.Nullable.{item-empty, all-empty, Closed, Adopted, Nullable-has-empty-layout, Nullable-one}
+use Rattle.theory.specs.Nullable.{item-empty, all-empty, Closed, Adopted, Nullable-one, Nullable-has-empty-layout}
 use Rattle.theory.proofs.Orders.{upward-splits}
 use Rattle.theory.proofs.Members.{join-valid, join-size}
 use Rattle.theory.proofs.Ranks.{sort}

@@ -31,25 +31,25 @@ length-pairs (p ∷ ps) rs = length-append (map (join p) rs) (pairs ps rs) ∙ o
 some-rest : (ps : List Layout) (rs : List Forest) (x : ℕ) → x < length ps * length rs → 0 < length rs
 some-rest ps rs x h =
     ⊎-elim
-      (λ (l : 0 < length rs). l)
-      (λ (l : length rs ≤ 0). let z : length rs ≡ 0 = omega arith in let y : length ps * length rs ≡ 0 = ap (λ v. length ps * v) z ∙ mul-zero (length ps) in absurd (omega arith))
-      (cases-lt 0 (length rs))
+    (λ (l : 0 < length rs). l)
+    (λ (l : length rs ≤ 0). let z : length rs ≡ 0 = omega arith in let y : length ps * length rs ≡ 0 = ap (λ v. length ps * v) z ∙ mul-zero (length ps) in absurd (omega arith))
+    (cases-lt 0 (length rs))
 
 pub pairs-numbered : Pairs-numbered
 pairs-numbered [] rs x h = absurd (not-suc-le-zero (subst (λ (v : ℕ). x < v) (zero-mul (length rs)) h))
 pairs-numbered (p ∷ ps) rs x h =
     ⊎-elim
-      (λ (l : x < length rs).
-        getD-append-left (map (join p) rs) (pairs ps rs) end x (omega (arith, length-map rs (join p)))
-        ∙ getD-map (join p) rs x end end l
-        ∙ ap₂ (λ (q r : ℕ). join (getD (p ∷ ps) q plain) (getD rs r end)) (sym (div-eq-of-lt l)) (sym (mod-eq-of-lt l)))
-      (λ (l : length rs ≤ x).
-        let s = suc-mul (length ps) (length rs) in
-        let b : x - length rs < length ps * length rs = omega arith in
-        getD-append-right (map (join p) rs) (pairs ps rs) (length rs) x end (length-map rs (join p)) l
-        ∙ pairs-numbered ps rs (x - length rs) b
-        ∙ ap₂ (λ (q r : ℕ). join (getD (p ∷ ps) q plain) (getD rs r end)) (sym (div-eq-sub-div (some-rest ps rs (x - length rs) b) l ∙ add-one ((x - length rs) / length rs))) (sym (mod-eq-sub-mod l)))
-      (cases-lt x (length rs))
+    (λ (l : x < length rs).
+    getD-append-left (map (join p) rs) (pairs ps rs) end x (omega (arith, length-map rs (join p)))
+    ∙ getD-map (join p) rs x end end l
+    ∙ ap₂ (λ (q r : ℕ). join (getD (p ∷ ps) q plain) (getD rs r end)) (sym (div-eq-of-lt l)) (sym (mod-eq-of-lt l)))
+    (λ (l : length rs ≤ x).
+    let s = suc-mul (length ps) (length rs) in
+    let b : x - length rs < length ps * length rs = omega arith in
+    getD-append-right (map (join p) rs) (pairs ps rs) (length rs) x end (length-map rs (join p)) l
+    ∙ pairs-numbered ps rs (x - length rs) b
+    ∙ ap₂ (λ (q r : ℕ). join (getD (p ∷ ps) q plain) (getD rs r end)) (sym (div-eq-sub-div (some-rest ps rs (x - length rs) b) l ∙ add-one ((x - length rs) / length rs))) (sym (mod-eq-sub-mod l)))
+    (cases-lt x (length rs))
 
 -- the same by the item's number q and the rest's number r
 
@@ -125,9 +125,9 @@ place-is (xs ∷ xss) zero u l = cond-true (same-list xs xs) 0 (suc (place-of xs
 place-is (xs ∷ xss) (suc x) u l =
     let k : x < length xss = le-of-suc-le-suc l in
     ⊎-elim
-      (λ (e : same-list (getD xss x []) xs ≡ true). absurd (u .0 (subst (λ (v : List ℕ). Among v xss) (same-eq (getD xss x []) xs e) (getD-among [] xss x k))))
-      (λ (e : same-list (getD xss x []) xs ≡ false). cond-false (same-list (getD xss x []) xs) 0 (suc (place-of (getD xss x []) xss)) e ∙ ap suc (place-is xss x (u .1) k))
-      (cases-bool (same-list (getD xss x []) xs))
+    (λ (e : same-list (getD xss x []) xs ≡ true). absurd (u .0 (subst (λ (v : List ℕ). Among v xss) (same-eq (getD xss x []) xs e) (getD-among [] xss x k))))
+    (λ (e : same-list (getD xss x []) xs ≡ false). cond-false (same-list (getD xss x []) xs) 0 (suc (place-of (getD xss x []) xss)) e ∙ ap suc (place-is xss x (u .1) k))
+    (cases-bool (same-list (getD xss x []) xs))
 
 -- the numbers of the layouts
 
@@ -138,19 +138,23 @@ layouts-numbered S law F nul adopted y n = record {
   has = has;
   back = back;
   again = λ l f.
-    let t = has l f in
-    let e : number-of S F y n (choices l) ≡ t .0 = ap (λ v. number-of S F y n (choices v)) (sym (t .2)) ∙ back (t .0) (t .1) in
-    ap (layout S F y n) e ∙ t .2;
+      let t = has l f in
+      let e : number-of S F y n (choices l) ≡ t .0 = ap (λ v. number-of S F y n (choices v)) (sym (t .2)) ∙ back (t .0) (t .1) in
+      ap (layout S F y n) e ∙ t .2;
 }
   where
     lists : ListsLayouts F (name y) n (layouts S F y n)
     lists = sequence-lists-layouts S law F nul adopted y n
+
     fits : (x : ℕ) → x < length (layouts S F y n) → LayoutOf F (name y) n (layout S F y n x)
     fits x l = lists .sound (layout S F y n x) (getD-among plain (layouts S F y n) x l)
+
     has : (l : Layout) → LayoutOf F (name y) n l → (x : ℕ) × (x < length (layouts S F y n)) × (layout S F y n x ≡ l)
     has l f = among-getD plain l (layouts S F y n) (lists .complete l f)
+
     lists-apart : Distinct (choice-lists S F y n)
     lists-apart = distinct-map-on choices (layouts S F y n) (λ l k a b e. choices-tell F y l k (lists .sound l a .valid) (lists .sound k b .valid) e) (lists .once)
+
     back : (x : ℕ) → x < length (layouts S F y n) → number-of S F y n (choices (layout S F y n x)) ≡ x
     back x l =
         let g : getD (choice-lists S F y n) x [] ≡ choices (layout S F y n x) = getD-map choices (layouts S F y n) x plain [] l in
@@ -159,7 +163,7 @@ layouts-numbered S law F nul adopted y n = record {
 
 -- the forests of a tail as a list of pieces: one for each answer of the order
 pub forests-pieces : (top : ℕ) (at : ℕ → ℕ → ℕ) (L : ℕ → ℕ → List Layout) (i : Item) (is : List Item) (n : ℕ) → n ≤ top →
-  forests (splits top at) L (i ∷ is) n ≡ joined (λ j. pairs (item-layouts L i (at n j)) (forests (splits top at) L is (n - at n j))) (below (suc n))
+    forests (splits top at) L (i ∷ is) n ≡ joined (λ j. pairs (item-layouts L i (at n j)) (forests (splits top at) L is (n - at n j))) (below (suc n))
 forests-pieces top at L i is n h =
     ap (joined (λ k. pairs (item-layouts L i k) (forests (splits top at) L is (n - k)))) (splits-at top at n h)
     ∙ joined-map (λ k. pairs (item-layouts L i k) (forests (splits top at) L is (n - k))) (at n) (below (suc n))

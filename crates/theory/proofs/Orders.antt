@@ -77,14 +77,14 @@ even-or-odd i = ⊎-elim (λ (e : i % 2 ≡ 0). inl e) (λ (e : i % 2 ≡ 0 → 
 pub to-and-fro-lawful : To-and-fro-lawful
 to-and-fro-lawful top = record {
   within = λ n i w h.
-    ⊎-elim (λ (e : i % 2 ≡ 0). omega (arith, even-at n i e)) (λ (e : i % 2 ≡ 1). omega (arith, odd-at n i e)) (even-or-odd i);
+      ⊎-elim (λ (e : i % 2 ≡ 0). omega (arith, even-at n i e)) (λ (e : i % 2 ≡ 1). omega (arith, odd-at n i e)) (even-or-odd i);
   once = λ n i j w h g q.
-    ⊎-elim
+      ⊎-elim
       (λ (e : i % 2 ≡ 0). ⊎-elim (λ (f : j % 2 ≡ 0). omega (arith, even-at n i e, even-at n j f)) (λ (f : j % 2 ≡ 1). omega (arith, even-at n i e, odd-at n j f)) (even-or-odd j))
       (λ (e : i % 2 ≡ 1). ⊎-elim (λ (f : j % 2 ≡ 0). omega (arith, odd-at n i e, even-at n j f)) (λ (f : j % 2 ≡ 1). omega (arith, odd-at n i e, odd-at n j f)) (even-or-odd j))
       (even-or-odd i);
   each = λ n k w h.
-    ⊎-elim
+      ⊎-elim
       (λ (l : n < 2 * k). (2 * (n - k) + 1, omega arith, odd-at n (2 * (n - k) + 1) (omega arith) ∙ omega arith))
       (λ (l : 2 * k ≤ n). (2 * k, l, even-at n (2 * k) (omega arith) ∙ omega arith))
       (cases-lt n (2 * k));

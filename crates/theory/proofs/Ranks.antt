@@ -1,5 +1,4 @@
 -- A family without empty cycles has ranks: how many names a name reaches. Assumes nothing.
--- how many pass a test
 use mathlib.Core.Path.{_≡_, refl, sym, _∙_, ap, subst}
 use mathlib.Core.List.{List, [], _∷_}
 use mathlib.Core.Bool.{Bool, true, false, cond, _&&_}
@@ -13,11 +12,29 @@ use Rattle.std.proofs.shelf.Tests.{true≢false, cases-bool, and-from, and-part
 use Rattle.theory.specs.Lists.{Among, any, below}
 use Rattle.theory.specs.Families.{Item, name, literal, Family, alternatives, alternative, Known, Defined}
 use Rattle.theory.specs.Nullable.{
-  all-empty, Closed, leads-in, leads, Chain, last, step, EmptyCycle, Adopted, through, reaches, Closure-finds-chains, Ranks, Acyclic-has-ranks, Ranks-exclude-cycles,
+  all-empty,
+  Closed,
+  leads-in,
+  leads,
+  Chain,
+  last,
+  step,
+  EmptyCycle,
+  Adopted,
+  through,
+  reaches,
+  Closure-finds-chains,
+  Closure-adopts,
+  Ranks,
+  Acyclic-has-ranks,
+  Ranks-exclude-cycles,
 }
 use Rattle.theory.proofs.Lists.{among-count, length-count}
+use Rattle.theory.proofs.Items.{some-name}
 
-tally : (ℕ → Bool) → List ℕ → ℕ
+-- how many pass a test
+
+pub tally : (ℕ → Bool) → List ℕ → ℕ
 tally p [] = 0
 tally p (x ∷ xs) = cond (p x) 1 0 + tally p xs
 
@@ -27,12 +44,12 @@ bit-le true false h = absurd (true≢false (sym (h refl)))
 bit-le false true h = omega arith
 bit-le false false h = omega arith
 
-tally-le : (p q : ℕ → Bool) (xs : List ℕ) → ((x : ℕ) → p x ≡ true → q x ≡ true) → tally p xs ≤ tally q xs
+pub tally-le : (p q : ℕ → Bool) (xs : List ℕ) → ((x : ℕ) → p x ≡ true → q x ≡ true) → tally p xs ≤ tally q xs
 unfolding tally
 tally-le p q [] h = omega arith
 tally-le p q (x ∷ xs) h = omega (arith, bit-le (p x) (q x) (h x), tally-le p q xs h)
 
-tally-lt : (p q : ℕ → Bool) (x : ℕ) (xs : List ℕ) → ((x : ℕ) → p x ≡ true → q x ≡ true) → Among x xs → p x ≡ false → q x ≡ true → tally p xs < tally q xs
+pub tally-lt : (p q : ℕ → Bool) (x : ℕ) (xs : List ℕ) → ((x : ℕ) → p x ≡ true → q x ≡ true) → Among x xs → p x ≡ false → q x ≡ true → tally p xs < tally q xs
 unfolding tally
 tally-lt p q x [] h w a b = absurd w
 tally-lt p q x (z ∷ xs) h (inl e) a b =
@@ -41,7 +58,7 @@ tally-lt p q x (z ∷ xs) h (inl e) a b =
     omega (arith, tally-le p q xs h)
 tally-lt p q x (z ∷ xs) h (inr w) a b = omega (arith, bit-le (p z) (q z) (h z), tally-lt p q x xs h w a b)
 
-tally-all : (xs : List ℕ) → tally (λ x. true) xs ≡ length xs
+pub tally-all : (xs : List ℕ) → tally (λ x. true) xs ≡ length xs
 unfolding tally
 tally-all [] = refl
 tally-all (x ∷ xs) = omega (arith, tally-all xs)
@@ -58,15 +75,15 @@ at-any f [] d e = absurd (true≢false (sym e))
 at-any f (x ∷ xs) d e =
     ⊎-elim (λ (h : f x ≡ true). (0, omega arith, h)) (λ (h : any f xs ≡ true). let t = at-any f xs d h in (suc (t .0), omega (arith, t .1), t .2)) (or-cases (f x) (any f xs) e)
 
--- a leads-in name is among the items
+-- a name to which an alternative leads is among its items
 pub leads-in-known : (nul : ℕ → Bool) (m z : ℕ) (is : List Item) → Known m is → leads-in nul z is ≡ true → z < m
 leads-in-known nul m z [] known h = absurd (true≢false (sym h))
 leads-in-known nul m z (literal x s c ∷ is) known h = leads-in-known nul m z is known (and-parts (eqb s 0) (leads-in nul z is) h .1)
 leads-in-known nul m z (name y ∷ is) known h =
     ⊎-elim
-      (λ (q : (eqb y z && all-empty nul is) ≡ true). let e = eqb-true y z (and-parts (eqb y z) (all-empty nul is) q .0) in omega (arith, known .0))
-      (λ (q : (nul y && leads-in nul z is) ≡ true). leads-in-known nul m z is (known .1) (and-parts (nul y) (leads-in nul z is) q .1))
-      (or-cases (eqb y z && all-empty nul is) (nul y && leads-in nul z is) h)
+    (λ (q : (eqb y z && all-empty nul is) ≡ true). let e = eqb-true y z (and-parts (eqb y z) (all-empty nul is) q .0) in omega (arith, known .0))
+    (λ (q : (nul y && leads-in nul z is) ≡ true). leads-in-known nul m z is (known .1) (and-parts (nul y) (leads-in nul z is) q .1))
+    (or-cases (eqb y z && all-empty nul is) (nul y && leads-in nul z is) h)
 
 module _ (F : Family) (nul : ℕ → Bool) where
   -- one chain after another
@@ -78,17 +95,17 @@ module _ (F : Family) (nul : ℕ → Bool) where
   through-chain zero y z h = last h
   through-chain (suc k) y z h =
       ⊎-elim
-        (λ (q : through F nul k y z ≡ true). through-chain k y z q)
-        (λ (q : (through F nul k y k && through F nul k k z) ≡ true).
-          let t = and-parts (through F nul k y k) (through F nul k k z) q in
-          chains (through-chain k y k (t .0)) (through-chain k k z (t .1)))
-        (or-cases (through F nul k y z) (through F nul k y k && through F nul k k z) h)
+      (λ (q : through F nul k y z ≡ true). through-chain k y z q)
+      (λ (q : (through F nul k y k && through F nul k k z) ≡ true).
+      let t = and-parts (through F nul k y k) (through F nul k k z) q in
+      chains (through-chain k y k (t .0)) (through-chain k k z (t .1)))
+      (or-cases (through F nul k y z) (through F nul k y k && through F nul k k z) h)
 
   through-step : (k y z : ℕ) → leads F nul y z ≡ true → through F nul k y z ≡ true
   through-step zero y z h = h
   through-step (suc k) y z h = or-left (through F nul k y z) (through F nul k y k && through F nul k k z) (through-step k y z h)
 
-  -- item-layouts round more
+  -- one round more
 
   Goes : ℕ → ℕ → ℕ → Type 0
   Goes k y z = through F nul k y z ≡ true
@@ -97,9 +114,9 @@ module _ (F : Family) (nul : ℕ → Bool) where
   unfolding Goes
   parts k y z h =
       ⊎-elim
-        (λ (q : through F nul k y z ≡ true). inl q)
-        (λ (q : (through F nul k y k && through F nul k k z) ≡ true). inr (and-parts (through F nul k y k) (through F nul k k z) q))
-        (or-cases (through F nul k y z) (through F nul k y k && through F nul k k z) h)
+      (λ (q : through F nul k y z ≡ true). inl q)
+      (λ (q : (through F nul k y k && through F nul k k z) ≡ true). inr (and-parts (through F nul k y k) (through F nul k k z) q))
+      (or-cases (through F nul k y z) (through F nul k y k && through F nul k k z) h)
 
   direct : (k y z : ℕ) → Goes k y z → Goes (suc k) y z
   unfolding Goes
@@ -112,7 +129,7 @@ module _ (F : Family) (nul : ℕ → Bool) where
   goes-joins : (k y w z : ℕ) → w < k → Goes k y w → Goes k w z → Goes k y z
   goes-joins zero y w z l a b = absurd (not-suc-le-zero l)
   goes-joins (suc k) y w z l a b = split (eq-or-lt-of-le (le-of-suc-le-suc l)) (parts k y w a) (parts k w z b)
-    (λ l p q. goes-joins k y w z l p q) (λ l p q. goes-joins k y w k l p q) (λ l p q. goes-joins k k w z l p q)
+      (λ l p q. goes-joins k y w z l p q) (λ l p q. goes-joins k y w k l p q) (λ l p q. goes-joins k k w z l p q)
     where
       to-k : w ≡ k → Goes k y w ⊎ (Goes k y k × Goes k k w) → Goes k y k
       to-k e (inl p) = subst (λ (v : ℕ). Goes k y v) e p
@@ -123,7 +140,7 @@ module _ (F : Family) (nul : ℕ → Bool) where
       from-k e (inr p) = p .1
 
       split : (w ≡ k) ⊎ (w < k) → Goes k y w ⊎ (Goes k y k × Goes k k w) → Goes k w z ⊎ (Goes k w k × Goes k k z) →
-        (w < k → Goes k y w → Goes k w z → Goes k y z) → (w < k → Goes k y w → Goes k w k → Goes k y k) → (w < k → Goes k k w → Goes k w z → Goes k k z) → Goes (suc k) y z
+          (w < k → Goes k y w → Goes k w z → Goes k y z) → (w < k → Goes k y w → Goes k w k → Goes k y k) → (w < k → Goes k k w → Goes k w z → Goes k k z) → Goes (suc k) y z
       split (inl e) p q f g h = by-way k y z (to-k e p) (from-k e q)
       split (inr l) (inl p) (inl q) f g h = direct k y z (f l p q)
       split (inr l) (inl p) (inr q) f g h = by-way k y z (g l p (q .0)) (q .1)
@@ -167,6 +184,21 @@ acyclic-has-ranks F nul a = record {
   falls = reached-falls F nul (a .defined) (a .acyclic);
 }
 
+-- a name with a step is one of the family's
+pub leads-known : (F : Family) (nul : ℕ → Bool) (x y : ℕ) → leads F nul x y ≡ true → x < length F
+leads-known F nul x y e = some-name F x (at-any (leads-in nul y) (alternatives F x) [] e .0) (at-any (leads-in nul y) (alternatives F x) [] e .1)
+
+pub chain-known : (F : Family) (nul : ℕ → Bool) {x y : ℕ} → Chain F nul x y → x < length F
+chain-known F nul (last {x = x} {y = y} e) = leads-known F nul x y e
+chain-known F nul (step {x = x} {y = y} w e c) = leads-known F nul x w e
+
+pub closure-adopts : Closure-adopts
+closure-adopts F nul defined nullable none = record {
+  defined = defined;
+  nullable = nullable;
+  acyclic = λ x c. true≢false (sym (chain-through F nul defined c) ∙ none x (chain-known F nul c));
+}
+
 pub closure-finds-chains : Closure-finds-chains
 closure-finds-chains F nul defined x y = record { found = through-chain F nul (length F) x y; finds = chain-through F nul defined }
 
@@ -186,7 +218,7 @@ pub record Sorted (F : Family) (nul : ℕ → Bool) : Type 0 where
   pub low : (y : ℕ) → y < length F → rank y < length F
   pub falls : (y z a : ℕ) → a < length (alternatives F y) → leads-in nul z (alternative F y a) ≡ true → rank z < rank y
 
-pub sorted-by : (F : Family) (nul : ℕ → Bool) → Defined F → Closed F nul → Ranks F nul → Sorted F nul
+abbrev pub sorted-by : (F : Family) (nul : ℕ → Bool) → Defined F → Closed F nul → Ranks F nul → Sorted F nul
 sorted-by F nul defined closed ranks = record {
   defined = defined;
   closed = closed;

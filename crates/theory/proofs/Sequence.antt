@@ -1,5 +1,4 @@
 -- The sequence does not change with more depth, so that it meets its own equation. Assumes nothing.
--- lists as a filling
 use mathlib.Core.Path.{_≡_, refl, sym, _∙_, ap, subst}
 use mathlib.Core.List.{List, [], _∷_, map}
 use mathlib.Core.Bool.{Bool, true, false, cond}
@@ -17,13 +16,26 @@ use Rattle.theory.specs.Lists.{Among, below}
 use Rattle.theory.specs.Families.{Item, name, Family, alternatives, alternative}
 use Rattle.theory.specs.Layouts.{Layout, plain, chosen, LayoutOf, forest-depth, depth}
 use Rattle.theory.specs.Sequence.{
-  pairs, item-layouts, forests, name-layouts, layouts-within, layouts, tail-forests, ListsLayouts, Sequence-lists-layouts, ListsForests, Tails-list-forests, Sequence-unfolds,
+  pairs,
+  item-layouts,
+  forests,
+  name-layouts,
+  layouts-within,
+  layouts,
+  tail-forests,
+  ListsLayouts,
+  Sequence-lists-layouts,
+  ListsForests,
+  Tails-list-forests,
+  Sequence-unfolds,
 }
 use Rattle.theory.specs.Nullable.{all-empty}
 use Rattle.theory.proofs.Lists.{count-among, joined-ext, joined-none}
 use Rattle.theory.proofs.Members.{forests-sound, forests-distinct, forests-complete, within-sound, within-distinct, within-complete}
 use Rattle.theory.proofs.Ranks.{Sorted, sort}
 use Rattle.theory.proofs.Agreement.{Filling, tail-none, agree}
+
+-- lists as a filling
 
 pairs-none : (ps : List Layout) → pairs ps [] ≡ []
 pairs-none [] = refl
@@ -78,9 +90,9 @@ module _ (F : Family) (nul : ℕ → Bool) (sorted : Sorted F nul) where
   pub not-all : (y a : ℕ) → Among a (below (length (alternatives F y))) → nul y ≡ false → all-empty nul (alternative F y a) ≡ false
   not-all y a w h =
       ⊎-elim
-        (λ (t : all-empty nul (alternative F y a) ≡ true). absurd (true≢false (sym (sorted .closed y a (omega (arith, count-among 0 (length (alternatives F y)) a w)) t) ∙ h)))
-        (λ (t : all-empty nul (alternative F y a) ≡ false). t)
-        (cases-bool (all-empty nul (alternative F y a)))
+      (λ (t : all-empty nul (alternative F y a) ≡ true). absurd (true≢false (sym (sorted .closed y a (omega (arith, count-among 0 (length (alternatives F y)) a w)) t) ∙ h)))
+      (λ (t : all-empty nul (alternative F y a) ≡ false). t)
+      (cases-bool (all-empty nul (alternative F y a)))
 
   module _ (S : ℕ → List ℕ) (law : Splits S) where
     pub within-bare : (d y : ℕ) → nul y ≡ false → layouts-within S F d y 0 ≡ []
@@ -90,14 +102,14 @@ module _ (F : Family) (nul : ℕ → Bool) (sorted : Sorted F nul) where
         joined-none (λ a. map (chosen a) (forests S (layouts-within S F d) (alternative F y a) 0)) (below (length (alternatives F y)))
         (λ a w. ap (map (chosen a)) (tail-none S law item-layouts (forests S) [] [] pairs joined (list-filling S) nul (length F) (layouts-within S F d) (λ z b q. within-bare d z q) (alternative F y a) (sorted .defined y a) (not-all y a w h)))
 
-    -- the sequence of item-layouts name from two tables that agree lower
+    -- the sequence of one name from two tables that agree at lower sizes, and at this size at lower ranks
     level : (L K : ℕ → ℕ → List Layout) → ((z : ℕ) → z < length F → nul z ≡ false → L z 0 ≡ []) → ((z : ℕ) → z < length F → nul z ≡ false → K z 0 ≡ []) → (y n : ℕ) →
-      ((z k : ℕ) → z < length F → k < n → L z k ≡ K z k) → ((z : ℕ) → z < length F → sorted .rank z < sorted .rank y → L z n ≡ K z n) →
-      name-layouts S F L y n ≡ name-layouts S F K y n
+        ((z k : ℕ) → z < length F → k < n → L z k ≡ K z k) → ((z : ℕ) → z < length F → sorted .rank z < sorted .rank y → L z n ≡ K z n) →
+        name-layouts S F L y n ≡ name-layouts S F K y n
     level L K bl bk y n lower here =
         joined-ext (λ a. map (chosen a) (forests S L (alternative F y a) n)) (λ a. map (chosen a) (forests S K (alternative F y a) n)) (below (length (alternatives F y)))
         (λ a w. ap (map (chosen a)) (agree S law item-layouts (forests S) [] [] pairs joined (list-filling S) nul (length F) L K bl bk (alternative F y a) n (sorted .defined y a) lower
-          (λ z b q. here z b (sorted .falls y z a (omega (arith, count-among 0 (length (alternatives F y)) a w)) q))))
+        (λ z b q. here z b (sorted .falls y z a (omega (arith, count-among 0 (length (alternatives F y)) a w)) q))))
 
     pub stable : (d e y n : ℕ) → y < length F → enough y n ≤ d → enough y n ≤ e → layouts-within S F d y n ≡ layouts-within S F e y n
     unfolding layouts-within
@@ -152,9 +164,9 @@ module _ (F : Family) (nul : ℕ → Bool) (sorted : Sorted F nul) (S : ℕ → 
   unfolding layouts
   sorted-unfolds y n =
       ⊎-elim
-        (λ (h : y < length F). unfolds-at F nul sorted S law (length F * suc n) y n h (enough-layouts F nul sorted y n h))
-        (λ (h : length F ≤ y). layouts-past S F y n h ∙ sym (name-layouts-past S F (layouts S F) y n h))
-        (cases-lt y (length F))
+      (λ (h : y < length F). unfolds-at F nul sorted S law (length F * suc n) y n h (enough-layouts F nul sorted y n h))
+      (λ (h : length F ≤ y). layouts-past S F y n h ∙ sym (name-layouts-past S F (layouts S F) y n h))
+      (cases-lt y (length F))
 
   pub sorted-lists : (y n : ℕ) → ListsLayouts F (name y) n (layouts S F y n)
   unfolding layouts

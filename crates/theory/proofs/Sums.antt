@@ -16,16 +16,11 @@ use Rattle.theory.specs.Sequence.{pairs, item-layouts, forests, layouts-within
 use Rattle.theory.specs.Totals.{sum-of, product-of, weight, forest-weight, item-value, tail-value, value-within}
 use Rattle.theory.proofs.Lists.{below-more}
 use Rattle.theory.proofs.Orders.{upward-splits}
+use Rattle.theory.proofs.Joins.{join-costs}
 
 pub map-++ : {A B : Type 0} (f : A → B) (xs ys : List A) → map f (xs ++ ys) ≡ map f xs ++ map f ys
 map-++ f [] ys = refl
 map-++ f (x ∷ xs) ys = ap (λ l. f x ∷ l) (map-++ f xs ys)
-
-join-costs : (F : Family) (i : Item) (is : List Item) (p : Layout) (r : Forest) → forest-costs F (i ∷ is) (join p r) ≡ costs F i p ++ forest-costs F is r
-join-costs F (literal x s c) is plain r = refl
-join-costs F (literal x s c) is (chosen a u) r = refl
-join-costs F (name y) is plain r = refl
-join-costs F (name y) is (chosen a u) r = refl
 
 module _ {K : Type 0} (o : Kind K) where
   pub sum-ext : {A : Type 0} (f g : A → K) (xs : List A) → ((x : A) → Among x xs → f x ≡ g x) → sum-of o f xs ≡ sum-of o g xs
@@ -73,7 +68,7 @@ module _ {K : Type 0} (o : Kind K) where
     product-++ [] ys = sym (laws .unit-left (product-of o ys))
     product-++ (x ∷ xs) ys = ap (o .product x) (product-++ xs ys) ∙ sym (laws .product-assoc x (product-of o xs) (product-of o ys))
 
-    -- item-layouts element taken out of a sum-of
+    -- one element taken out of a sum
     sum-swap : (x y z : K) → o .sum x (o .sum y z) ≡ o .sum y (o .sum x z)
     sum-swap x y z = sym (laws .sum-assoc x y z) ∙ ap (λ w. o .sum w z) (laws .sum-comm x y) ∙ laws .sum-assoc y x z
 
@@ -103,8 +98,8 @@ module _ {K : Type 0} (o : Kind K) where
             fewer = λ z g. ⊎-elim (λ (k : z ≡ y). inl k) (λ (k : Among z t.rest). inr (t .fewer z k)) g;
             others = λ z g. ⊎-elim (λ (k : z ≡ y). inr (inl k)) (λ (k : Among z ys). ⊎-elim (λ (l : z ≡ x). inl l) (λ (l : Among z t.rest). inr (inr l)) (t .others z k)) g;
             apart = λ d.
-              let a = t .apart (d .1) in
-              ((λ g. d .0 (t .fewer y g), a .0), λ g. ⊎-elim (λ (k : x ≡ y). d .0 (subst (λ (w : A). Among w ys) k h)) (λ (k : Among x t.rest). a .1 k) g);
+                let a = t .apart (d .1) in
+                ((λ g. d .0 (t .fewer y g), a .0), λ g. ⊎-elim (λ (k : x ≡ y). d .0 (subst (λ (w : A). Among w ys) k h)) (λ (k : Among x t.rest). a .1 k) g);
           }
 
       -- the same elements in another order
@@ -115,8 +110,8 @@ module _ {K : Type 0} (o : Kind K) where
           let t = pull x ys (to x (inl refl)) in
           let a = t .apart dy in
           ap (o .sum (f x)) (sum-same xs (t .rest) (dx .1) (a .0)
-            (λ z h. ⊎-elim (λ (e : z ≡ x). absurd (dx .0 (subst (λ (w : A). Among w xs) e h))) (λ (k : Among z t.rest). k) (t .others z (to z (inr h))))
-            (λ z h. ⊎-elim (λ (e : z ≡ x). absurd (a .1 (subst (λ (w : A). Among w t.rest) e h))) (λ (k : Among z xs). k) (back z (t .fewer z h))))
+          (λ z h. ⊎-elim (λ (e : z ≡ x). absurd (dx .0 (subst (λ (w : A). Among w xs) e h))) (λ (k : Among z t.rest). k) (t .others z (to z (inr h))))
+          (λ z h. ⊎-elim (λ (e : z ≡ x). absurd (a .1 (subst (λ (w : A). Among w t.rest) e h))) (λ (k : Among z xs). k) (back z (t .fewer z h))))
           ∙ sym (t .sums)
 
     -- the splits in another order
@@ -135,9 +130,9 @@ module _ {K : Type 0} (o : Kind K) where
       sum-pairs i is ps rs =
           sum-joined (forest-weight o F (i ∷ is)) (λ x. map (join x) rs) ps
           ∙ sum-ext (λ x. sum-of o (forest-weight o F (i ∷ is)) (map (join x) rs)) (λ x. o .product (weight o F i x) (sum-of o (forest-weight o F is) rs)) ps
-            (λ x h. sum-map (forest-weight o F (i ∷ is)) (join x) rs
-              ∙ sum-ext (λ r. forest-weight o F (i ∷ is) (join x r)) (λ r. o .product (weight o F i x) (forest-weight o F is r)) rs (λ r k. join-weight i is x r)
-              ∙ times-sum (weight o F i x) (forest-weight o F is) rs)
+          (λ x h. sum-map (forest-weight o F (i ∷ is)) (join x) rs
+          ∙ sum-ext (λ r. forest-weight o F (i ∷ is) (join x r)) (λ r. o .product (weight o F i x) (forest-weight o F is r)) rs (λ r k. join-weight i is x r)
+          ∙ times-sum (weight o F i x) (forest-weight o F is) rs)
           ∙ sum-times (sum-of o (forest-weight o F is) rs) (weight o F i) ps
 
       sum-kept : {A : Type 0} (f : A → K) (b : Bool) (z : A) (v : K) → f z ≡ v → sum-of o f (cond b (z ∷ []) []) ≡ cond b v (o .none)
@@ -154,7 +149,7 @@ module _ {K : Type 0} (o : Kind K) where
         sum-forests (i ∷ is) n =
             sum-joined (forest-weight o F (i ∷ is)) (λ k. pairs (item-layouts L i k) (forests S L is (n - k))) (S n)
             ∙ sum-ext (λ k. sum-of o (forest-weight o F (i ∷ is)) (pairs (item-layouts L i k) (forests S L is (n - k)))) (λ k. o .product (item-value o e i k) (tail-value o e is (n - k))) (S n)
-              (λ k h. sum-pairs i is (item-layouts L i k) (forests S L is (n - k)) ∙ ap₂ (o .product) (sum-item i k) (sum-forests is (n - k)))
+            (λ k h. sum-pairs i is (item-layouts L i k) (forests S L is (n - k)) ∙ ap₂ (o .product) (sum-item i k) (sum-forests is (n - k)))
             ∙ sum-splits S upward law upward-splits (λ k. o .product (item-value o e i k) (tail-value o e is (n - k))) n
 
       module _ (S : ℕ → List ℕ) (law : Splits S) where
@@ -164,6 +159,6 @@ module _ {K : Type 0} (o : Kind K) where
         sum-within (suc d) y n =
             sum-joined (weight o F (name y)) (λ a. map (chosen a) (forests S (layouts-within S F d) (alternative F y a) n)) (below (length (alternatives F y)))
             ∙ sum-ext (λ a. sum-of o (weight o F (name y)) (map (chosen a) (forests S (layouts-within S F d) (alternative F y a) n)))
-              (λ a. tail-value o (value-within o F d) (alternative F y a) n) (below (length (alternatives F y)))
-              (λ a h. sum-map (weight o F (name y)) (chosen a) (forests S (layouts-within S F d) (alternative F y a) n)
-                ∙ sum-forests S law (layouts-within S F d) (value-within o F d) (sum-within d) (alternative F y a) n)
+            (λ a. tail-value o (value-within o F d) (alternative F y a) n) (below (length (alternatives F y)))
+            (λ a h. sum-map (weight o F (name y)) (chosen a) (forests S (layouts-within S F d) (alternative F y a) n)
+            ∙ sum-forests S law (layouts-within S F d) (value-within o F d) (sum-within d) (alternative F y a) n)

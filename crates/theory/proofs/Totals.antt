@@ -16,8 +16,27 @@ use Rattle.theory.specs.Families.{Item, name, Family, tails}
 use Rattle.theory.specs.Layouts.{forest-costs, costs}
 use Rattle.theory.specs.Sequence.{layouts, tail-forests}
 use Rattle.theory.specs.Totals.{
-  sum-of, product-of, weight, forest-weight, total, tail-total, Totals-sum-all, item-value, tail-value, Recursion-gives-totals, counting, count, Sequence-counted, Counts,
-  CountsCapped, Counts-up-to-cap, sum-costs, Cheapens, LeastCost, Cheapest, Totals-are-cheapest,
+  sum-of,
+  product-of,
+  weight,
+  forest-weight,
+  total,
+  tail-total,
+  Totals-sum-all,
+  item-value,
+  tail-value,
+  Recursion-gives-totals,
+  counting,
+  count,
+  Sequence-counted,
+  Counts,
+  CountsCapped,
+  Counts-up-to-cap,
+  sum-costs,
+  Cheapens,
+  LeastCost,
+  Cheapest,
+  Totals-are-cheapest,
 }
 use Rattle.theory.proofs.Sums.{sum-ext, sum-same, sum-forests, sum-within}
 use Rattle.theory.proofs.Sequence.{sequence-lists-layouts, tails-list-forests}
@@ -25,11 +44,11 @@ use Rattle.theory.proofs.Sequence.{sequence-lists-layouts, tails-list-forests}
 pub totals-sum-all : {K : Type 0} (o : Kind K) → Laws o → Totals-sum-all o
 totals-sum-all o laws S law F nul adopted = record {
   names = λ y n ls w.
-    let h = sequence-lists-layouts S law F nul adopted y n in
-    sum-same o laws (weight o F (name y)) (layouts S F y n) ls (h .once) (w .once) (λ l g. w .complete l (h .sound l g)) (λ l g. h .complete l (w .sound l g));
+      let h = sequence-lists-layouts S law F nul adopted y n in
+      sum-same o laws (weight o F (name y)) (layouts S F y n) ls (h .once) (w .once) (λ l g. w .complete l (h .sound l g)) (λ l g. h .complete l (w .sound l g));
   tails = λ is n ts w.
-    let h = tails-list-forests S law F nul adopted is n in
-    sum-same o laws (forest-weight o F is) (tail-forests S F is n) ts (h .once) (w .once) (λ t g. w .complete t (h .sound t g)) (λ t g. h .complete t (w .sound t g));
+      let h = tails-list-forests S law F nul adopted is n in
+      sum-same o laws (forest-weight o F is) (tail-forests S F is n) ts (h .once) (w .once) (λ t g. w .complete t (h .sound t g)) (λ t g. h .complete t (w .sound t g));
 }
 
 pub recursion-gives-totals : {K : Type 0} (o : Kind K) → Laws o → Recursion-gives-totals o
@@ -49,7 +68,7 @@ module _ {K : Type 0} (o : Kind K) (laws : Laws o) (S : ℕ → List ℕ) (law :
   tail-total-cons i is n =
       tail-total-value (i ∷ is) n
       ∙ sum-ext o (λ k. o .product (item-value o (total o S F) i k) (tail-value o (total o S F) is (n - k))) (λ k. o .product (item-value o (total o S F) i k) (tail-total o S F is (n - k))) (below (suc n))
-        (λ k w. ap (o .product (item-value o (total o S F) i k)) (sym (tail-total-value is (n - k))))
+      (λ k w. ap (o .product (item-value o (total o S F) i k)) (sym (tail-total-value is (n - k))))
 
   pub tail-total-end : (n : ℕ) → tail-total o S F [] n ≡ cond (eqb n 0) (o .unit) (o .none)
   tail-total-end n = tail-total-value [] n
@@ -134,15 +153,16 @@ module _ {K : Type 0} (cap : ℕ) (o : Kind K) (v : K → ℕ) (cheapens : Cheap
   lower {A} cost l ls r m least e = record {
     bound = λ k w. ⊎-elim (λ (q : k ≡ l). let z = ap cost q in omega arith) (λ (q : Among k ls). let z = least .bound k q in omega arith) w;
     attained = ⊎-elim
-      (λ (h : r < min cap (cost l)). others h (least .attained))
-      (λ (h : min cap (cost l) ≤ r). here h (cases-lt cap (cost l)))
-      (cases-lt r (min cap (cost l)));
+        (λ (h : r < min cap (cost l)). others h (least .attained))
+        (λ (h : min cap (cost l) ≤ r). here h (cases-lt cap (cost l)))
+        (cases-lt r (min cap (cost l)));
     capped = omega arith;
   }
     where
       others : r < min cap (cost l) → (r ≡ cap) ⊎ ((k : A) × Among k ls × (r ≡ cost k)) → (m ≡ cap) ⊎ ((k : A) × Among k (l ∷ ls) × (m ≡ cost k))
       others h (inl q) = absurd (omega arith)
       others h (inr q) = let z = q .2 in inr (q .0, inr (q .1), omega arith)
+
       here : min cap (cost l) ≤ r → (cap < cost l) ⊎ (cost l ≤ cap) → (m ≡ cap) ⊎ ((k : A) × Among k (l ∷ ls) × (m ≡ cost k))
       here h (inl q) = inl (omega arith)
       here h (inr q) = inr (l, inl refl, omega arith)

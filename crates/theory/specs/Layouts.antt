@@ -109,15 +109,18 @@ texts F (literal t s c) (chosen a u) = []
 texts F (name y) plain = []
 texts F (name y) (chosen a u) = forest-texts F (alternative F y a) u
 
--- what stands after a text: nothing, or a space before the others
-abbrev pub spaced : List ℕ → List ℕ
-spaced [] = []
-spaced (b ∷ bs) = 32 ∷ b ∷ bs
+-- two texts side by side, with a space between them where neither is empty
+abbrev pub beside : List ℕ → List ℕ → List ℕ
+beside [] us = us
+beside (b ∷ bs) [] = b ∷ bs
+beside (b ∷ bs) (c ∷ cs) = (b ∷ bs) ++ (32 ∷ c ∷ cs)
 
 abbrev pub in-words : List (List ℕ) → List ℕ
 in-words [] = []
-in-words ([] ∷ ts) = in-words ts
-in-words ((b ∷ bs) ∷ ts) = (b ∷ bs) ++ spaced (in-words ts)
+in-words (t ∷ ts) = beside t (in-words ts)
+
+abbrev pub forest-text : Family → List Item → Forest → List ℕ
+forest-text F is t = in-words (forest-texts F is t)
 
 abbrev pub text : Family → Item → Layout → List ℕ
 text F i l = in-words (texts F i l)

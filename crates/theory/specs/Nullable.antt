@@ -60,6 +60,29 @@ pub record Adopted (F : Family) (nul : ℕ → Bool) : Type 0 where
   pub nullable : Nullable F nul
   pub acyclic : (x : ℕ) → EmptyCycle F nul x → ⊥
 
+-- Finding the names that can be empty, by sweeps over the family
+
+-- the names with an alternative that is empty by the set P
+abbrev pub sweep : Family → (ℕ → Bool) → ℕ → Bool
+sweep F P y = any (all-empty P) (alternatives F y)
+
+-- after k sweeps
+abbrev pub swept : Family → ℕ → ℕ → Bool
+swept F zero y = false
+swept F (suc k) y = sweep F (swept F k) y
+
+-- after as many sweeps as there are names
+abbrev pub nullable-set : Family → ℕ → Bool
+nullable-set F y = swept F (length F) y
+
+-- these sweeps find the least closed set
+abbrev pub Sweeps-find-nullable : Type 0
+Sweeps-find-nullable = (F : Family) → Nullable F (nullable-set F)
+
+-- and there is no other
+abbrev pub Nullable-one : Type 0
+Nullable-one = (F : Family) (nul lun : ℕ → Bool) → Nullable F nul → Nullable F lun → (y : ℕ) → y < length F → nul y ≡ lun y
+
 -- The names that can be empty are those that have a layout of size 0
 
 pub record EmptyLayout (F : Family) (nul : ℕ → Bool) (y : ℕ) : Type 0 where
@@ -68,10 +91,6 @@ pub record EmptyLayout (F : Family) (nul : ℕ → Bool) (y : ℕ) : Type 0 wher
 
 abbrev pub Nullable-has-empty-layout : Type 0
 Nullable-has-empty-layout = (F : Family) (nul : ℕ → Bool) → Adopted F nul → (y : ℕ) → y < length F → EmptyLayout F nul y
-
--- two least closed sets have the same names
-abbrev pub Nullable-one : Type 0
-Nullable-one = (F : Family) (nul lun : ℕ → Bool) → Nullable F nul → Nullable F lun → (y : ℕ) → y < length F → nul y ≡ lun y
 
 -- Reaching: the closure of the steps, name after name
 
@@ -91,6 +110,11 @@ pub record FindsChains (F : Family) (nul : ℕ → Bool) (x y : ℕ) : Type 0 wh
 -- the closure finds the chains and nothing else
 abbrev pub Closure-finds-chains : Type 0
 Closure-finds-chains = (F : Family) (nul : ℕ → Bool) → Defined F → (x y : ℕ) → FindsChains F nul x y
+
+-- a family in which no name reaches itself can be adopted
+abbrev pub Closure-adopts : Type 0
+Closure-adopts =
+    (F : Family) (nul : ℕ → Bool) → Defined F → Nullable F nul → ((x : ℕ) → x < length F → reaches F nul x x ≡ false) → Adopted F nul
 
 -- Ranks: each step leads to a lower one
 

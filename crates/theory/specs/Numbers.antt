@@ -50,5 +50,5 @@ Layouts-numbered = (S : ℕ → List ℕ) → Splits S → (F : Family) (nul : �
 -- a number within a split is a pair: the quotient by the rest's count is the item's number, the remainder the rest's
 abbrev pub Pairs-numbered : Type 0
 Pairs-numbered =
-  (ls : List Layout) (rs : List Forest) (x : ℕ) → x < length ls * length rs →
-  getD (pairs ls rs) x end ≡ join (getD ls (x / length rs) plain) (getD rs (x % length rs) end)
+    (ls : List Layout) (rs : List Forest) (x : ℕ) → x < length ls * length rs →
+    getD (pairs ls rs) x end ≡ join (getD ls (x / length rs) plain) (getD rs (x % length rs) end)

@@ -8,7 +8,7 @@ use lib.Dec.{eqb}
 use Rattle.std.specs.Joined.{joined}
 use Rattle.theory.specs.Lists.{Among, Distinct, below}
 use Rattle.theory.specs.Orders.{Splits}
-use Rattle.theory.specs.Families.{Item, name, literal, Family, alternatives, alternative, Known}
+use Rattle.theory.specs.Families.{Item, name, literal, Family, alternatives, alternative}
 use Rattle.theory.specs.Layouts.{Forest, end, Layout, plain, chosen, join, ForestOf, LayoutOf, depth}
 use Rattle.theory.specs.Nullable.{Adopted}
 
@@ -54,7 +54,7 @@ pub record ListsLayouts (F : Family) (i : Item) (n : ℕ) (ls : List Layout) : T
 
 abbrev pub Sequence-lists-layouts : Type 0
 Sequence-lists-layouts =
-  (S : ℕ → List ℕ) → Splits S → (F : Family) (nul : ℕ → Bool) → Adopted F nul → (y n : ℕ) → ListsLayouts F (name y) n (layouts S F y n)
+    (S : ℕ → List ℕ) → Splits S → (F : Family) (nul : ℕ → Bool) → Adopted F nul → (y n : ℕ) → ListsLayouts F (name y) n (layouts S F y n)
 
 -- and so have the sequences of the tails
 
@@ -65,13 +65,13 @@ pub record ListsForests (F : Family) (is : List Item) (n : ℕ) (ts : List Fores
 
 abbrev pub Tails-list-forests : Type 0
 Tails-list-forests =
-  (S : ℕ → List ℕ) → Splits S → (F : Family) (nul : ℕ → Bool) → Adopted F nul → (is : List Item) (n : ℕ) → ListsForests F is n (tail-forests S F is n)
+    (S : ℕ → List ℕ) → Splits S → (F : Family) (nul : ℕ → Bool) → Adopted F nul → (is : List Item) (n : ℕ) → ListsForests F is n (tail-forests S F is n)
 
 -- The sequence meets its own equation, with no bound in sight
 
 abbrev pub Sequence-unfolds : Type 0
 Sequence-unfolds =
-  (S : ℕ → List ℕ) → Splits S → (F : Family) (nul : ℕ → Bool) → Adopted F nul → (y n : ℕ) → layouts S F y n ≡ name-layouts S F (layouts S F) y n
+    (S : ℕ → List ℕ) → Splits S → (F : Family) (nul : ℕ → Bool) → Adopted F nul → (y n : ℕ) → layouts S F y n ≡ name-layouts S F (layouts S F) y n
 
 -- no layout is deeper than the bound
 abbrev pub Layouts-shallow : Type 0

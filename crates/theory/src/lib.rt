@@ -4,10 +4,10 @@ ghost use Rattle.theory.specs.Kinds.{Kind, Laws};
 ghost use Rattle.theory.specs.Orders.{Rising-lawful, To-and-fro-lawful, Splits-lawful};
 ghost use Rattle.theory.specs.Families.{Items-numbered};
 ghost use Rattle.theory.specs.Layouts.{Choices-tell};
-ghost use Rattle.theory.specs.Nullable.{Nullable-one, Nullable-has-empty-layout, Closure-finds-chains, Acyclic-has-ranks, Ranks-exclude-cycles};
+ghost use Rattle.theory.specs.Nullable.{Sweeps-find-nullable, Closure-adopts, Nullable-one, Nullable-has-empty-layout, Closure-finds-chains, Acyclic-has-ranks, Ranks-exclude-cycles};
 ghost use Rattle.theory.specs.Sequence.{Sequence-lists-layouts, Tails-list-forests, Sequence-unfolds, Layouts-shallow};
 ghost use Rattle.theory.specs.Totals.{Sequence-counted, Totals-sum-all, Recursion-gives-totals, Counts-up-to-cap, Totals-are-cheapest};
-ghost use Rattle.theory.specs.Tables.{Solution-holds-totals, Totals-solve, Names-hold-totals, Name-totals-solve};
+ghost use Rattle.theory.specs.Tables.{Entries-placed, Filled-by-rank, Solution-holds-totals, Totals-solve, Names-hold-totals, Name-totals-solve};
 ghost use Rattle.theory.specs.Numbers.{Layouts-numbered, Pairs-numbered};
 
 // The rising order is lawful.
@@ -45,6 +45,13 @@ pub fn choices_tell() -> u8
     0
 }
 
+// Sweeps over the family find the least set of names that can be empty.
+pub fn sweeps_find_nullable() -> u8
+    ensures { λ _. ⌜ Sweeps-find-nullable ⌝ }
+{
+    0
+}
+
 // There is one least set of names that can be empty.
 pub fn nullable_one() -> u8
     ensures { λ _. ⌜ Nullable-one ⌝ }
@@ -62,6 +69,13 @@ pub fn nullable_has_empty_layout() -> u8
 // The closure of the steps finds exactly the chains.
 pub fn closure_finds_chains() -> u8
     ensures { λ _. ⌜ Closure-finds-chains ⌝ }
+{
+    0
+}
+
+// A family in which no name reaches itself can be adopted.
+pub fn closure_adopts() -> u8
+    ensures { λ _. ⌜ Closure-adopts ⌝ }
 {
     0
 }
@@ -129,6 +143,13 @@ pub fn pairs_numbered() -> u8
     0
 }
 
+// The entries of a table stand each at one place.
+pub fn entries_placed() -> u8
+    ensures { λ _. ⌜ Entries-placed ⌝ }
+{
+    0
+}
+
 // A weight kind, with its laws. The theorems below hold for each.
 pub trait Weight {
     ghost kind: { Kind Self };
@@ -174,6 +195,13 @@ pub fn names_hold_totals<W: Weight>() -> u8
 // And the totals solve these.
 pub fn name_totals_solve<W: Weight>() -> u8
     ensures { λ _. ⌜ Name-totals-solve (W·Weight .kind) ⌝ }
+{
+    0
+}
+
+// A table can be filled size after size, and within a size by rank.
+pub fn filled_by_rank<W: Weight>() -> u8
+    ensures { λ _. ⌜ Filled-by-rank (W·Weight .kind) ⌝ }
 {
     0
 }

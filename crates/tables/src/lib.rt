@@ -1,0 +1,6 @@
+// Weight kinds, tables of totals and open tables.
+pub mod count;
+pub mod cheapest;
+pub mod kind;
+pub mod shape;
+pub mod filling;
