@@ -1,0 +1,7 @@
+// Split orders, drawing by number, and printing.
+pub mod order;
+pub mod pending;
+pub mod stack;
+pub mod walking;
+pub mod guard;
+pub mod printing;
