@@ -1,3 +1,4 @@
 pub mod Counts
 pub mod Costs
 pub mod Tables
+pub mod Openings

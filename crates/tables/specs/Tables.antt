@@ -3,7 +3,10 @@ use mathlib.Core.Path.{_≡_}
 use mathlib.Core.List.{List}
 use Prim.Native.Nat.{ℕ, _+_, _*_, _≤_, _<_}
 use lib.ListN.{length}
+use denote.Ref.{RefT}
 use Rattle.std.specs.Of.Vec.{vec-items}
+use Rattle.std.specs.declared.option.Option.{Option}
+use Rattle.std.specs.declared.option.Option.the-variants.{Some, None}
 use Rattle.std.specs.declared.result.Result.{Result}
 use Rattle.std.specs.declared.result.Result.the-variants.{Ok, Err}
 use Rattle.families.specs.declared.family.Family.{Family}
@@ -14,6 +17,15 @@ use Rattle.tables.specs.declared.shape.Shape.{Shape}
 -- one row for each name and then one for each item
 abbrev pub rows-of : Family → ℕ
 rows-of f = length (vec-items (f .grammar .rules)) + length (vec-items (f .grammar .labels))
+
+-- the names and the rows of the family that is open, none where none is
+abbrev pub names-open : Option (RefT Family) → ℕ
+names-open None = 0
+names-open (Some f) = length (vec-items (f .now .grammar .rules))
+
+abbrev pub rows-open : Option (RefT Family) → ℕ
+rows-open None = 0
+rows-open (Some f) = rows-of (f .now)
 
 -- a table of r rows has entries for the sizes 0 to n in each
 abbrev pub entries : ℕ → ℕ → ℕ

@@ -189,14 +189,21 @@ pub(crate) fn shape_for(family: &Family, length: usize, top: usize) -> Result<Sh
     Ok(Shape { rows, top })
 }
 
+// Writes each entry's total.
+pub(crate) fn fill_all<K: WeightKind>(shape: Shape, family: &Family, table: &mut [K])
+    requires room { ⌜ entries (shape .rows) (shape .top) ≤ length (now table) ⌝ }
+{
+    fill_bare(shape, family, table);
+    for n in 0..shape.top + 1 {
+        fill_size(shape, family, table, n);
+    }
+}
+
 // Writes each entry's total into the table, or refuses and writes nothing.
 pub fn fill<K: WeightKind>(family: &Family, table: &mut [K], top: usize) -> Result<(), Fault>
     ensures { λ r. ⌜ Refused-fill r (rows-of (now (family .entry))) (now (table .entry)) (now (table .exit)) top ⌝ }
 {
     let shape = shape_for(family, table.len(), top)?;
-    fill_bare(shape, family, table);
-    for n in 0..top + 1 {
-        fill_size(shape, family, table, n);
-    }
+    fill_all(shape, family, table);
     Ok(())
 }

@@ -4,3 +4,6 @@ pub mod cheapest;
 pub mod kind;
 pub mod shape;
 pub mod filling;
+pub mod scratch;
+pub mod open_table;
+pub mod opening;
