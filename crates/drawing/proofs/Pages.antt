@@ -37,3 +37,8 @@ kept-trans p q r m n k e a b = record {
 pub puts-keep : (r : Result (Unit {0}) Fault) (p q t : List ℕ) (m n : ℕ) → Puts r p q m n t → Keeps r p q m n
 puts-keep (Ok x) p q t m n (fits, is, at) = λ h. subst (λ l. Kept p l m n) (sym is) (subst (Kept p (written p m t) m) (sym at) (kept-written p t m fits))
 puts-keep (Err e) p q t m n (is, over, same, at) = (is, λ h. subst (λ l. Kept p l m n) (sym same) (subst (Kept p p m) (sym at) (kept-same p m h)))
+
+-- one put after another
+pub keeps-after : (r : Result (Unit {0}) Fault) (p q s : List ℕ) (m n k : ℕ) → length q ≡ length p → (m ≤ length p → Kept p q m n) → Keeps r q s n k → Keeps r p s m k
+keeps-after (Ok x) p q s m n k e a b = λ h. kept-trans p q s m n k e (a h) (b (omega (arith, e, a h .within)))
+keeps-after (Err f) p q s m n k e a b = (b .0, λ h. kept-trans p q s m n k e (a h) (b .1 (omega (arith, e, a h .within))))

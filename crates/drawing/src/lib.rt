@@ -2,6 +2,9 @@
 pub mod order;
 pub mod pending;
 pub mod stack;
+pub mod counting;
+pub mod choosing;
+pub mod drawing;
 pub mod walking;
 pub mod guard;
 pub mod printing;
