@@ -106,9 +106,6 @@ fn write_sheet<W: Write>(out: &mut W, heap: Global, input: &[u8]) -> Result<(), 
     };
     let mut family = Family::new(heap)?;
     let name = adopted(heap, request, &mut family)?;
-    if request.top > 40 {
-        return Err(Stop::Refused(Fault::TopTooLarge));
-    }
     let mut table = Vec::from_elem(heap, Count { value: 0 }, 6560)?;
     fill(&family, &mut table, request.top)?;
     let mut opened = OpenTable::new(Scratch::new(heap)?);
