@@ -152,5 +152,5 @@ fn choice_lists_are_checked(rt: LibcRuntime) -> Result<(), Fail> {
     check_eq(mark, 2)?;
     print(&family, 0, b"\x00\x01", &mut stack, &mut page, &mut mark)?;
     check_eq(mark, 7)?;
-    check(page[0..7] == *b"..point")
+    check(page.starts_with(b"..point"))
 }
