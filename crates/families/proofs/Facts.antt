@@ -1,5 +1,5 @@
 -- The facts that drafts and families keep, taken out again. Assumes nothing.
-use mathlib.Core.Path.{_≡_, refl, sym, ap, subst, _∙_}
+use mathlib.Core.Path.{_≡_, ap, _∙_}
 use mathlib.Core.Bool.{Bool, true, false, _&&_, Bool-set}
 use mathlib.Core.HLevel.{⊥-prop, Unit-prop, ×-prop}
 use mathlib.Core.List.{List, [], _∷_}
@@ -12,9 +12,8 @@ use lib.Dec.{leb, ltb}
 use lib.ListN.{length}
 use Rattle.std.proofs.shelf.Tests.{both-ways, cases-bool, and-from, and-parts, leb-true, ltb-true, le-leb, lt-ltb}
 use Rattle.theory.specs.Families.{Item as Symbol, name, literal, Known, alternative}
-use Rattle.theory.specs.Nullable.{Nullable, Adopted}
 use Rattle.families.specs.Grammars.{Lists, rule-at}
-use Rattle.families.specs.Models.{model, marked, Formed, RankedBy, Sound}
+use Rattle.families.specs.Models.{model, Formed, Sound}
 
 known-prop : (m : ℕ) (is : List Symbol) → IsProp (Known m is)
 known-prop m [] = Unit-prop

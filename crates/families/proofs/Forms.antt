@@ -2,21 +2,21 @@
 use mathlib.Core.Path.{_≡_, refl, sym, ap, subst, _∙_}
 use mathlib.Core.Bool.{Bool, true, false, cond, _&&_}
 use mathlib.Core.List.{List, [], _∷_, _++_}
-use Prim.Native.Nat.{ℕ, zero, suc, _+_, _-_, _≤_, _<_, min}
+use Prim.Native.Nat.{ℕ, zero, suc, _+_, _-_, _≤_, _<_}
 use native.Mathlib.Nat.{zero-add}
 use native.Mathlib.Omega.{arith}
 use lib.Dec.{leb, ltb}
-use lib.ListN.{length, getD, set, take}
+use lib.ListN.{length}
 use Rattle.std.specs.Orderings.{When}
-use Rattle.std.proofs.shelf.Tests.{true≢false, and-parts, ltb-true}
+use Rattle.std.proofs.shelf.Tests.{and-parts, ltb-true}
 use Rattle.std.proofs.shelf.Lists.{length-set, length-push, length-take}
 use Rattle.families.specs.Faults.{Answer, granted, refused}
 use Rattle.families.specs.Scans.{Word, name, literal, digits, equals, bar, semicolon, colon, at}
-use Rattle.families.specs.Items.{label-of, text-of, no-items, items-of, item-at, with-item, with-put, with-size, with-cost, resized, recosted, decimal}
+use Rattle.families.specs.Items.{label-of, text-of, no-items, items-of, with-item, with-put, with-size, with-cost, resized, recosted, decimal}
 use Rattle.families.specs.Grammars.{Lists, rule-index, label-at}
 use Rattle.families.specs.States.{begun, opened}
-use Rattle.families.specs.Steps.{Reading, fresh, Action, begin-rule, begin-alternative, next-alternative, end-rule, add-name, add-literal, set-size, set-cost, expect-size, expect-cost, unfit, action, said, acted, stepped, with-alternative, with-label, with-rule}
-use Rattle.families.specs.Files.{next, each, resolved-use, resolved-item, resolved-alternative, resolved, closed, Reads, ends, goes, stops, fails, ReadsFile}
+use Rattle.families.specs.Steps.{Reading, fresh, Action, begin-rule, begin-alternative, next-alternative, end-rule, add-name, add-literal, set-size, set-cost, expect-size, expect-cost, unfit, action, said, acted, with-alternative, with-label, with-rule}
+use Rattle.families.specs.Files.{next, each, resolved-item, resolved-alternative, resolved, closed, Reads, ends, goes, stops, fails, ReadsFile}
 use Rattle.families.specs.Models.{Formed}
 use Rattle.families.specs.declared.item.Item.{Item}
 use Rattle.families.specs.declared.item.Item.the-variants.{Vacant, Use, Name, Literal}
@@ -298,12 +298,12 @@ acted-going set-size s r p n t f g h =
     let o = open-now r g f in
     subst Going (inside-granted _ t h)
     (with-current r g f AfterSize (with-size (r .current) (decimal s)) refl
-      (plain-put 0 (r .current) _ _ (o .plain) (resized-below 0 _ (decimal s) (below-at 0 (r .current .items) (r .current .count - 1) (o .plain .names)))) refl refl)
+    (plain-put 0 (r .current) _ _ (o .plain) (resized-below 0 _ (decimal s) (below-at 0 (r .current .items) (r .current .count - 1) (o .plain .names)))) refl refl)
 acted-going set-cost s r p n t f g h =
     let o = open-now r g f in
     subst Going (inside-granted _ t h)
     (with-current r g f Items (with-cost (r .current) (decimal s)) refl
-      (plain-put 0 (r .current) _ _ (o .plain) (recosted-below 0 _ (decimal s) (below-at 0 (r .current .items) (r .current .count - 1) (o .plain .names)))) refl refl)
+    (plain-put 0 (r .current) _ _ (o .plain) (recosted-below 0 _ (decimal s) (below-at 0 (r .current .items) (r .current .count - 1) (o .plain .names)))) refl refl)
 acted-going expect-size s r p n t f g h = subst Going (inside-granted _ t h) (with-current r g f AfterColon (r .current) refl (open-now r g f .plain) refl refl)
 acted-going expect-cost s r p n t f g h = subst Going (inside-granted _ t h) (with-current r g f AfterAt (r .current) refl (open-now r g f .plain) refl refl)
 acted-going unfit s r p n t f g h = absurd (never 6 p n t h)
@@ -344,8 +344,7 @@ module _ (rs : List Rule) (ls : List Label) where
       let u = next-granted (each (resolved-alternative rs ls) xs) _ ys (q .2) in
       let a = resolved-plain x (q .0) (r .0) (q .1) in
       let t = resolved-row (n + length (items-of x)) xs (u .0) (r .2) (u .1) in
-      subst (λ (v : List Alternative). Row (length rs) n v × (length v ≡ length (x ∷ xs)) × (held v ≡ held (x ∷ xs))) (inside-granted _ ys (u .2))
-      (
+      subst (λ (v : List Alternative). Row (length rs) n v × (length v ≡ length (x ∷ xs)) × (held v ≡ held (x ∷ xs))) (inside-granted _ ys (u .2)) (
         (a .0, a .1 ∙ r .1, subst (λ (k : ℕ). Row (length rs) k (u .0)) (ap (λ k. n + k) (sym (a .2))) (t .0)),
         ap suc (t .1),
         omega (arith, a .2, t .2),
@@ -357,14 +356,14 @@ resolved-formed l t w h =
     let a = resolved-row (l .rules) (l .labels) 0 (l .alternatives) (q .0) (w .row) (q .1) in
     subst Formed (inside-granted _ t (q .2))
     (whole-formed (record { rules = l .rules; alternatives = q .0; labels = l .labels })
-      (record {
-        few-rules = w .few-rules;
-        few-alternatives = omega (arith, w .few-alternatives, a .1);
-        few-items = w .few-items;
-        runs = subst (Runs 0 (l .rules)) (sym (a .1)) (w .runs);
-        row = a .0;
-        labelled = w .labelled ∙ sym (a .2);
-      }))
+    (record {
+      few-rules = w .few-rules;
+      few-alternatives = omega (arith, w .few-alternatives, a .1);
+      few-items = w .few-items;
+      runs = subst (Runs 0 (l .rules)) (sym (a .1)) (w .runs);
+      row = a .0;
+      labelled = w .labelled ∙ sym (a .2);
+    }))
 
 -- Whole files
 

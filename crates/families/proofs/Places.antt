@@ -2,17 +2,16 @@
 use mathlib.Core.Path.{_≡_, refl, sym, ap, subst, _∙_}
 use mathlib.Core.Bool.{Bool, true, false, _&&_}
 use mathlib.Core.List.{List, [], _∷_, map}
-use mathlib.Core.Logic.{_⊎_, inl, inr, ⊎-elim}
+use mathlib.Core.Logic.{⊎-elim}
 use Prim.Native.Nat.{ℕ, zero, suc, _+_, _-_, _≤_, _<_, min}
 use native.Mathlib.Nat.{le-of-suc-le-suc, not-suc-le-zero}
 use native.Mathlib.Omega.{arith}
-use lib.Dec.{eqb}
 use lib.ListN.{length, getD, take, drop}
 use Rattle.std.specs.Orderings.{Decides}
 use Rattle.std.proofs.shelf.Tests.{true≢false, and-from, and-parts, or-cases, or-left, or-right, eqb-true, eq-eqb, cases-lt}
 use Rattle.std.proofs.shelf.Lists.{getD-map, getD-past, getD-take, getD-drop, length-map, length-take, length-drop, length-take-le}
 use Rattle.theory.specs.Lists.{any}
-use Rattle.theory.specs.Families.{Item as Symbol, name, literal, alternatives, alternative}
+use Rattle.theory.specs.Families.{Item as Symbol, alternatives, alternative}
 use Rattle.theory.specs.Nullable.{item-empty, all-empty, is-name, leads-in}
 use Rattle.families.specs.Items.{items-of, item-at}
 use Rattle.families.specs.Grammars.{Lists, rule-at, alternative-at, no-rule}
@@ -117,7 +116,7 @@ module _ (nul : ℕ → Bool) (ls : List Label) (a : Alternative) (six : Fits-si
   unfolding Others
   leads-decided y r h = decided r _ _ h
       (λ t. leads-from nul ls y (items-of a) (t .place) (omega (arith, length-items a six, t .inside)) (item-is a (t .place) (t .inside) ∙ t .is)
-        (λ k l n. let m : k < a .count = omega (arith, length-items a six) in ap (adds-nothing nul) (item-is a k m) ∙ t .others k m n))
+      (λ k l n. let m : k < a .count = omega (arith, length-items a six) in ap (adds-nothing nul) (item-is a k m) ∙ t .others k m n))
       (λ e.
       let t = from-leads nul ls y (items-of a) e in
       let m : t .0 < a .count = omega (arith, length-items a six, t .1) in
@@ -159,6 +158,7 @@ module _ (l : Lists) where
             (λ (k : y < length (l .rules)). omega (arith, inside y k))
             (λ (k : length (l .rules) ≤ y). let e = ap (λ r. r .count) (getD-past (l .rules) y no-rule k) in omega arith)
             (cases-lt y (length (l .rules)))
+
         fewer : min (rule-at (l .rules) y .count) (length (drop (rule-at (l .rules) y .first) (l .alternatives))) ≡ rule-at (l .rules) y .count
         fewer = omega (arith, enough, length-drop (rule-at (l .rules) y .first) (l .alternatives))
 
@@ -170,6 +170,7 @@ module _ (l : Lists) where
       where
         n : ℕ
         n = rule-at (l .rules) y .count
+
         f : ℕ
         f = rule-at (l .rules) y .first
 

@@ -2,23 +2,23 @@
 use mathlib.Core.Path.{_≡_, refl, sym, ap, ap₂, subst, _∙_}
 use mathlib.Core.List.{List, [], _∷_, _++_, map}
 use mathlib.Core.Logic.{_⊎_, inl, inr, ⊎-elim}
-use Prim.Native.Nat.{ℕ, zero, suc, _+_, _-_, _≤_, _<_, min}
+use Prim.Native.Nat.{ℕ, zero, suc, _+_, _-_, _≤_, _<_}
 use native.Mathlib.Nat.{add-zero, zero-add, le-of-suc-le-suc, not-suc-le-zero}
 use native.Mathlib.Omega.{arith}
 use lib.ListN.{length, getD, set, take, drop}
 use Rattle.std.proofs.shelf.Tests.{cases-lt}
-use Rattle.std.proofs.shelf.Lists.{getD-past, length-map, length-push, take-map, take-take, take-all}
-use Rattle.theory.specs.Families.{Known, Defined, alternatives, alternative, items-in, items-under, first-item, item-count}
+use Rattle.std.proofs.shelf.Lists.{getD-past, length-map, take-map, take-take, take-all}
+use Rattle.theory.specs.Families.{Known, alternatives, alternative, items-in, items-under}
 use Rattle.theory.proofs.Items.{item-count-is}
-use Rattle.families.specs.Items.{items-of, no-items}
-use Rattle.families.specs.Grammars.{Lists, no-lists, rule-at, alternative-at, no-rule}
+use Rattle.families.specs.Items.{items-of}
+use Rattle.families.specs.Grammars.{Lists, no-lists, rule-at, alternative-at}
 use Rattle.families.specs.Models.{item-model, alternative-model, rule-model, model, Formed}
 use Rattle.families.specs.declared.item.Item.{Item}
 use Rattle.families.specs.declared.item.Item.the-variants.{Vacant, Use, Name, Literal}
 use Rattle.families.specs.declared.item.Label.{Label}
 use Rattle.families.specs.declared.item.Alternative.{Alternative}
 use Rattle.families.specs.declared.item.Rule.{Rule}
-use Rattle.families.proofs.Places.{rule-is, names-are, within, count-is, alternative-is}
+use Rattle.families.proofs.Places.{names-are, within, count-is, alternative-is}
 
 -- Items
 
@@ -193,6 +193,7 @@ whole-formed l w = record {
   where
     m : ℕ
     m = length (l .rules)
+
     inside : (y : ℕ) → y < length (l .rules) → rule-at (l .rules) y .first + rule-at (l .rules) y .count ≤ length (l .alternatives)
     inside y h = runs-inside 0 (l .rules) (length (l .alternatives)) y (w .runs) h
 
@@ -200,7 +201,7 @@ whole-formed l w = record {
     defined y a (inl h) =
         subst (λ (n : ℕ). Known n (alternative (model l) y a)) (sym (names-are l))
         (subst (Known m) (sym (alternative-is l inside y a h))
-          (known m _ (l .labels) _ (row-plain m 0 (l .alternatives) (rule-at (l .rules) y .first + a) (w .row) (within l inside y a h) .names)))
+        (known m _ (l .labels) _ (row-plain m 0 (l .alternatives) (rule-at (l .rules) y .first + a) (w .row) (within l inside y a h) .names)))
     defined y a (inr h) = subst (Known (length (model l))) (sym (getD-past (alternatives (model l) y) a [] (omega (arith, count-is l inside y)))) tt
 
 pub none-formed : Formed no-lists

@@ -1,17 +1,16 @@
 // Adopting a draft: the names that can be empty, the steps, the empty cycles, the ranks.
 ghost use mathlib.Core.Path.{_≡_};
-ghost use mathlib.Core.Bool.{Bool, true, false, _||_, _&&_};
-ghost use Prim.Native.Nat.{ℕ, _+_, _-_, _*_, _≤_, _<_};
-ghost use lib.ListN.{length, getD};
-ghost use Rattle.std.specs.Of.Vec.{vec-items, vec-len};
-ghost use Rattle.std.specs.Results.{Cases, isErr};
-ghost use Rattle.families.specs.declared.fault.Fault.the-variants.{OutOfMemory};
-ghost use Rattle.families.specs.Grammars.{lists-of, no-lists};
+ghost use mathlib.Core.Bool.{true, false, _||_, _&&_};
+ghost use Prim.Native.Nat.{ℕ, _≤_, _<_};
+ghost use lib.ListN.{getD};
 ghost use Rattle.std.specs.Orderings.{Decides};
-ghost use Rattle.theory.specs.Nullable.{Nullable, leads, reaches, sweep as swept-name};
+ghost use Rattle.std.specs.Results.{Cases};
+ghost use Rattle.theory.specs.Nullable.{Nullable, leads, reaches, sweep as empty-by};
+ghost use Rattle.families.specs.Grammars.{lists-of, no-lists};
 ghost use Rattle.families.specs.Models.{Formed, model, marked};
 ghost use Rattle.families.specs.Reaches.{adds-nothing, OthersEmpty, LeadsTo, Swept, pair, Shows, count-below};
 ghost use Rattle.families.specs.Adopts.{Adopts};
+ghost use Rattle.families.specs.declared.fault.Fault.the-variants.{OutOfMemory};
 use crate::draft::Draft;
 use crate::family::Family;
 use crate::fault::Fault;
@@ -46,14 +45,18 @@ fn others_empty(nullable: &[bool; 32], alternative: Alternative, except: usize) 
     true
 }
 
-// Whether some alternative of the rule has only items that can be empty.
+// Whether some alternative of the rule has only items that can be empty: no item stands at 6.
 fn rule_empty(grammar: &Grammar, nullable: &[bool; 32], y: usize) -> bool
     requires { ⌜ Formed (lists-of (now grammar)) ⌝ }
-    ensures { λ r. ⌜ r ≡ swept-name (model (lists-of (now (grammar .entry)))) (marked (now (nullable .entry))) y ⌝ }
+    ensures { λ r. ⌜ r ≡ empty-by (model (lists-of (now (grammar .entry)))) (marked (now (nullable .entry))) y ⌝ }
 {
     let rule = grammar.rule(y);
     for a in 0..rule.count {
-        if others_empty(nullable, grammar.alternative(rule.first.saturating_add(a)), 6) {
+        if others_empty(
+            nullable,
+            grammar.alternative(rule.first.saturating_add(a)),
+            6,
+        ) {
             return true;
         }
     }
@@ -82,8 +85,8 @@ fn nullable_names(grammar: &Grammar) -> [bool; 32]
 {
     let mut nullable = [false; 32];
     loop {
-        let found = sweep(grammar, &mut nullable);
-        if found == 0 {
+        let settled = sweep(grammar, &mut nullable) == 0;
+        if settled {
             return nullable;
         }
     }
@@ -110,7 +113,11 @@ fn rule_leads(grammar: &Grammar, nullable: &[bool; 32], from: usize, to: usize) 
 {
     let rule = grammar.rule(from);
     for a in 0..rule.count {
-        if alternative_leads(nullable, grammar.alternative(rule.first.saturating_add(a)), to) {
+        if alternative_leads(
+            nullable,
+            grammar.alternative(rule.first.saturating_add(a)),
+            to,
+        ) {
             return true;
         }
     }
@@ -129,6 +136,7 @@ fn all_steps(grammar: &Grammar, nullable: &[bool; 32]) -> Relation
     steps
 }
 
+// Whether the relation has the pair.
 fn holds(pairs: &Relation, from: usize, to: usize) -> bool
     requires from { ⌜ from < 32 ⌝ }
     requires to { ⌜ to < 32 ⌝ }
@@ -201,6 +209,7 @@ fn rank(chains: &Relation, names: usize, y: usize) -> usize
     rank
 }
 
+// The ranks of all names.
 fn all_ranks(chains: &Relation, names: usize) -> [usize; 32]
     requires { ⌜ names ≤ 32 ⌝ }
     ensures { λ r. ⌜ ((y : ℕ) → y < 32 → getD r y 0 ≡ count-below (pair (now (chains .entry)) y) names) ⌝ }

@@ -1,4 +1,3 @@
-use lib.ListN.{length, getD}
 use Rattle.theory.specs.Nullable.{through}
 use Rattle.families.specs.Grammars.{lists-of}
 use Rattle.families.specs.Models.{model, marked}

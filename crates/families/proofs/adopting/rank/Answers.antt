@@ -1,4 +1,4 @@
-use mathlib.Core.Path.{_≡_, sym, ap, subst, _∙_}
+use mathlib.Core.Path.{sym, _∙_}
 use native.Mathlib.Omega.{arith}
 use Rattle.families.specs.Reaches.{pair}
 use Rattle.families.proofs.Flags.{counted-yes, counted-no}
@@ -9,6 +9,6 @@ pub loop-z-again : need.loop-z-again
 loop-z-again c =
     let p = pair (c .args .chains .now) (c .args .y) in
     elim (c .if-holds .came) [
-      then-holds w ↦ (let e = counted-yes p (c .loop-z .z) (sym (c .holds .ensures) ∙ w .if-holds .taken) in (omega (arith, w .rank-is), omega (arith, w .rank-is)))
-    | else-holds w ↦ (let e = counted-no p (c .loop-z .z) (sym (c .holds .ensures) ∙ w .if-holds .left) in (omega (arith, w .rank-is), omega (arith, w .rank-is)))
+      | then-holds w ↦ (let e = counted-yes p (c .loop-z .z) (sym (c .holds .ensures) ∙ w .if-holds .taken) in (omega (arith, w .rank-is), omega (arith, w .rank-is)))
+      | else-holds w ↦ (let e = counted-no p (c .loop-z .z) (sym (c .holds .ensures) ∙ w .if-holds .left) in (omega (arith, w .rank-is), omega (arith, w .rank-is)))
     ]

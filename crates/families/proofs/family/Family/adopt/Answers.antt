@@ -1,7 +1,7 @@
 use mathlib.Core.Path.{_≡_, refl, sym, ap, ap₂, subst, _∙_}
-use Prim.Native.Nat.{ℕ, _<_, _≤_}
+use Prim.Native.Nat.{_<_}
 use native.Mathlib.Omega.{arith}
-use lib.ListN.{length, getD}
+use lib.ListN.{length}
 use Rattle.families.specs.Grammars.{Lists, lists-of}
 use Rattle.families.specs.Models.{Sound}
 use Rattle.families.specs.Reaches.{pair, count-below}
@@ -21,8 +21,7 @@ returns-then-cycle-names c =
     let l = lists-of (c .args .draft .grammar) in
     let formed = formed-out l (c .args .draft .formed) in
     let y = c .first-cycle-cycle .result in
-    let inside : y < length (l .rules) = omega (arith, c .len-names .ensures) in
-    (
+    let inside : y < length (l .rules) = omega (arith, c .len-names .ensures) in (
       refl,
       refl,
       refl,
@@ -41,8 +40,8 @@ ghost-self c =
     let formed = formed-out l (c .args .draft .formed) in
     let many : c .len-names .result ≡ length (l .rules) = omega (arith, c .len-names .ensures) in
     let whole =
-        sound l _ _ formed (c .nullable-names-nullable .ensures) (c .all-chains-chains .ensures) (λ y h. c .first-cycle-cycle .ensures .before y (omega arith)) (c .all-ranks-self .result)
-        (λ y h. c .all-ranks-self .ensures y h ∙ ap (count-below (pair (c .all-chains-chains .result) y)) many) in
+    sound l _ _ formed (c .nullable-names-nullable .ensures) (c .all-chains-chains .ensures) (λ y h. c .first-cycle-cycle .ensures .before y (omega arith)) (c .all-ranks-self .result)
+    (λ y h. c .all-ranks-self .ensures y h ∙ ap (count-below (pair (c .all-chains-chains .result) y)) many) in
     (∣ subst (λ (v : Lists). Sound v (c .nullable-names-nullable .result) (c .all-ranks-self .result)) (sym (c .copy-from .ensures)) whole ∣₁, tt)
 
 pub returns : need.returns
