@@ -8,7 +8,8 @@ ghost use Rattle.std.specs.Of.Vec.{vec-items, vec-len};
 ghost use Rattle.std.specs.Results.{Cases};
 ghost use Rattle.std.specs.declared.option.Option.the-variants.{Some, None};
 ghost use Rattle.families.specs.declared.fault.Fault.the-variants.{OutOfMemory};
-ghost use Rattle.tables.specs.Tables.{rows-of, rows-open, names-open, entries};
+ghost use Rattle.tables.specs.Tables.{Sound-family, rows-of, rows-open, names-open, entries};
+ghost use Rattle.tables.specs.Fillings.{Prepared};
 ghost use Rattle.tables.specs.Openings.{Opened, count-at};
 use crate::count::Count;
 use crate::filling::fill_all;
@@ -48,8 +49,8 @@ fn first_difference(table: &[Count], totals: &[Count], size: usize) -> usize
 
 // The first index at which an entry is not its total, or how many entries there are; `totals` is written.
 fn first_wrong(shape: Shape, family: &Family, table: &[Count], totals: &mut [Count]) -> usize
-    requires table { ⌜ entries (shape .rows) (shape .top) ≤ length (now table) ⌝ }
-    requires totals { ⌜ entries (shape .rows) (shape .top) ≤ length (now totals) ⌝ }
+    requires room { ⌜ entries (shape .rows) (shape .top) ≤ length (now table) ⌝ }
+    requires prepared { ⌜ Prepared (now family) shape (length (now totals)) ⌝ }
     ensures within { λ r. ⌜ r ≤ entries (shape .rows) (shape .top) ⌝ }
 {
     fill_all(shape, family, totals);
@@ -71,6 +72,7 @@ impl<'f, 't> OpenTable<'f, 't> {
 
     // Opens the table, where each entry is its total. A refusal leaves what is open as it was.
     pub fn open(&mut self, family: &'f Family, table: &'t [Count], top: usize) -> Result<(), Fault>
+        requires sound { ⌜ Sound-family (now family) ⌝ }
         ensures { λ r. ⌜ Opened r (now (self .entry)) (now (self .exit)) (now (family .entry)) (now (table .entry)) top ⌝ }
     {
         let shape = shape_for(family, table.len(), top)?;
