@@ -4,3 +4,4 @@ pub mod Views
 pub mod Stored
 pub mod Rows
 pub mod Sizes
+pub mod Opens

@@ -1,7 +1,9 @@
 -- The shape of tables, when one is refused, and what filling one writes. Assumes nothing.
 use mathlib.Core.Path.{_≡_}
 use mathlib.Core.List.{List, []}
-use Prim.Native.Nat.{ℕ, _+_, _*_, _≤_, _<_}
+use mathlib.Core.Bool.{cond}
+use Prim.Native.Nat.{ℕ, _+_, _-_, _*_, _≤_, _<_}
+use lib.Dec.{ltb}
 use lib.ListN.{length, getD}
 use denote.Ref.{RefT}
 use Rattle.std.specs.Of.Vec.{vec-items}
@@ -10,8 +12,9 @@ use Rattle.std.specs.declared.option.Option.the-variants.{Some, None}
 use Rattle.std.specs.declared.result.Result.{Result}
 use Rattle.std.specs.declared.result.Result.the-variants.{Ok, Err}
 use Rattle.theory.specs.Kinds.{Kind}
-use Rattle.theory.specs.Orders.{Splits}
-use Rattle.theory.specs.Families.{Family as Rules}
+use Rattle.theory.specs.Orders.{Splits, upward}
+use Rattle.theory.specs.Families.{Family as Rules, tail-at}
+use Rattle.theory.specs.Totals.{total, tail-total}
 use Rattle.theory.specs.Tables.{entry-at, HoldsTotals}
 use Rattle.families.specs.Grammars.{Lists, lists-of, no-lists}
 use Rattle.families.specs.Models.{model, Sound}
@@ -42,6 +45,10 @@ entry-of o N t r n = getD t (entry-at N r n) (o .none)
 -- each entry of the table is its total, by every split order
 abbrev pub Totals : {K : Type 0} → Kind K → Rules → ℕ → List K → Type 0
 Totals o F N t = (S : ℕ → List ℕ) → Splits S → HoldsTotals o S F N (entry-of o N t)
+
+-- the total of a row at n: of a name, or of the tail that begins with an item; the split order does not matter
+abbrev pub total-at : {K : Type 0} → Kind K → Rules → ℕ → ℕ → K
+total-at o F r n = cond (ltb r (length F)) (total o upward F r n) (tail-total o upward F (tail-at F (r - length F)) n)
 
 -- what stands behind the entries of r rows is as it was
 abbrev pub Beyond : {K : Type 0} → ℕ → ℕ → List K → List K → Type 0
