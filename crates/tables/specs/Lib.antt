@@ -1,4 +1,5 @@
 pub mod Counts
 pub mod Costs
 pub mod Tables
+pub mod Fillings
 pub mod Openings

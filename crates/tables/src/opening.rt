@@ -8,8 +8,11 @@ ghost use Rattle.std.specs.Of.Vec.{vec-items, vec-len};
 ghost use Rattle.std.specs.Results.{Cases};
 ghost use Rattle.std.specs.declared.option.Option.the-variants.{Some, None};
 ghost use Rattle.families.specs.declared.fault.Fault.the-variants.{OutOfMemory};
-ghost use Rattle.tables.specs.Tables.{rows-of, rows-open, names-open, entries};
-ghost use Rattle.tables.specs.Openings.{Opened, count-at};
+ghost use Rattle.theory.specs.Tables.{rows};
+ghost use Rattle.tables.specs.Tables.{Sound-family, rules-of, rules-open, rows-open, names-open, entries, total-at, Totals};
+ghost use Rattle.tables.specs.Counts.{count-kind};
+ghost use Rattle.tables.specs.Fillings.{Prepared};
+ghost use Rattle.tables.specs.Openings.{FirstWrong, Opened, count-at};
 use crate::count::Count;
 use crate::filling::fill_all;
 use crate::filling::shape_for;
@@ -37,6 +40,8 @@ fn first_difference(table: &[Count], totals: &[Count], size: usize) -> usize
     requires table { ⌜ size ≤ length (now table) ⌝ }
     requires totals { ⌜ size ≤ length (now totals) ⌝ }
     ensures within { λ r. ⌜ r ≤ size ⌝ }
+    ensures before { λ r. ⌜ ((k : ℕ) → k < r → getD (now (table .entry)) k (count-kind .none) ≡ getD (now (totals .entry)) k (count-kind .none)) ⌝ }
+    ensures here { λ r. ⌜ (r < size → getD (now (table .entry)) r (count-kind .none) ≡ getD (now (totals .entry)) r (count-kind .none) → ⊥) ⌝ }
 {
     for i in 0..size {
         if table[i].value != totals[i].value {
@@ -48,9 +53,10 @@ fn first_difference(table: &[Count], totals: &[Count], size: usize) -> usize
 
 // The first index at which an entry is not its total, or how many entries there are; `totals` is written.
 fn first_wrong(shape: Shape, family: &Family, table: &[Count], totals: &mut [Count]) -> usize
-    requires table { ⌜ entries (shape .rows) (shape .top) ≤ length (now table) ⌝ }
-    requires totals { ⌜ entries (shape .rows) (shape .top) ≤ length (now totals) ⌝ }
-    ensures within { λ r. ⌜ r ≤ entries (shape .rows) (shape .top) ⌝ }
+    requires room { ⌜ entries (shape .rows) (shape .top) ≤ length (now table) ⌝ }
+    requires prepared { ⌜ Prepared (now family) shape (length (now totals)) ⌝ }
+    ensures wrong { λ r. ⌜ (r < entries (shape .rows) (shape .top) → FirstWrong (rules-of (now (family .entry))) (shape .top) (now (table .entry)) r) ⌝ }
+    ensures right { λ r. ⌜ (entries (shape .rows) (shape .top) ≤ r → Totals count-kind (rules-of (now (family .entry))) (shape .top) (now (table .entry))) ⌝ }
 {
     fill_all(shape, family, totals);
     first_difference(table, totals, shape.rows * (shape.top + 1))
@@ -71,7 +77,8 @@ impl<'f, 't> OpenTable<'f, 't> {
 
     // Opens the table, where each entry is its total. A refusal leaves what is open as it was.
     pub fn open(&mut self, family: &'f Family, table: &'t [Count], top: usize) -> Result<(), Fault>
-        ensures { λ r. ⌜ Opened r (now (self .entry)) (now (self .exit)) (now (family .entry)) (now (table .entry)) top ⌝ }
+        requires sound { ⌜ Sound-family (now family) ⌝ }
+        ensures { λ r. ⌜ Opened r (now (self .entry)) (now (self .exit)) (family .entry) (table .entry) top ⌝ }
     {
         let shape = shape_for(family, table.len(), top)?;
         let index = first_wrong(shape, family, table, self.scratch.totals.as_mut_slice());
@@ -120,7 +127,8 @@ impl<'f, 't> OpenTable<'f, 't> {
 
     // The entry of a row at a size; 0 where there is none.
     pub fn count(&self, row: usize, size: usize) -> u64
-        ensures { λ r. ⌜ r ≡ count-at (now (self .entry)) row size ⌝ }
+        ensures value { λ r. ⌜ r ≡ count-at (now (self .entry)) row size ⌝ }
+        ensures total { λ r. ⌜ (row < rows (rules-open (now (self .entry) .family)) → size ≤ now (self .entry) .top → r ≡ total-at count-kind (rules-open (now (self .entry) .family)) row size .value) ⌝ }
     {
         let rows = self.rows();
         if row < rows && size <= self.top {
