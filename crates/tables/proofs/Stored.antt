@@ -21,12 +21,17 @@ use Rattle.families.specs.declared.item.Item.the-variants.{Vacant, Use, Name, L
 use Rattle.families.specs.declared.item.Label.{Label}
 use Rattle.families.specs.declared.item.Rule.{Rule}
 use Rattle.families.specs.declared.item.Alternative.{Alternative}
+use Rattle.families.proofs.Facts.{sound-out}
 use Rattle.tables.specs.Tables.{Sound-family, rules-of, rows-of, entries}
 use Rattle.tables.specs.Fillings.{Prepared, Below, Stands, Of, Among-of}
 use Rattle.tables.specs.declared.shape.Shape.{Shape}
 
 pub length-model : (l : Lists) → length (model l) ≡ length (l .rules)
 length-model l = length-map (l .rules) (rule-model l)
+
+-- what every family keeps
+pub family-sound : (f : Family) → Sound-family f
+family-sound f = sound-out (lists-of (f .grammar)) (f .nullable) (f .ranks) (f .sound)
 
 pub rows-model : (f : Family) → Sound-family f → rows-of f ≡ rows (rules-of f)
 rows-model f sound = ap₂ _+_ (sym (length-model (lists-of (f .grammar)))) (sym (sound .formed .counted))

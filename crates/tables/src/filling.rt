@@ -254,7 +254,6 @@ pub(crate) fn shape_for(family: &Family, length: usize, top: usize) -> Result<Sh
 
 // Writes each entry's total into the table, or refuses and writes nothing.
 pub fn fill<K: WeightKind>(family: &Family, table: &mut [K], top: usize) -> Result<(), Fault>
-    requires sound { ⌜ Sound-family (now family) ⌝ }
     ensures { λ r. ⌜ Fills kind r (now (family .entry)) top (now (table .entry)) (now (table .exit)) ⌝ }
 {
     let shape = shape_for(family, table.len(), top)?;

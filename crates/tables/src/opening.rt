@@ -77,7 +77,6 @@ impl<'f, 't> OpenTable<'f, 't> {
 
     // Opens the table, where each entry is its total. A refusal leaves what is open as it was.
     pub fn open(&mut self, family: &'f Family, table: &'t [Count], top: usize) -> Result<(), Fault>
-        requires sound { ⌜ Sound-family (now family) ⌝ }
         ensures { λ r. ⌜ Opened r (now (self .entry)) (now (self .exit)) (family .entry) (table .entry) top ⌝ }
     {
         let shape = shape_for(family, table.len(), top)?;
