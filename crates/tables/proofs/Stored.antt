@@ -1,14 +1,13 @@
 -- What stored rules are as names, alternatives and numbered items. Assumes nothing.
-use mathlib.Core.Path.{_≡_, refl, sym, ap, ap₂, _∙_, subst}
+use mathlib.Core.Path.{_≡_, sym, ap, ap₂, _∙_, subst}
 use mathlib.Core.List.{List, [], _∷_, map}
-use mathlib.Core.Logic.{_⊎_, inl, inr}
-use Prim.Native.Nat.{ℕ, zero, suc, _+_, _-_, _≤_, _<_}
+use Prim.Native.Nat.{ℕ, zero, suc, _+_, _≤_, _<_}
 use native.Mathlib.Nat.{zero-add, le-of-suc-le-suc, not-suc-le-zero}
 use native.Mathlib.Omega.{arith}
 use lib.ListN.{length, getD, take, drop, length-drop}
 use lib.Seq.{getD-take, getD-drop, length-take-le}
-use Rattle.std.proofs.shelf.Lists.{length-map, getD-map, getD-default}
-use Rattle.theory.specs.Families.{Item as Symbol, name, literal, Family as Rules, alternatives, alternative, Known, item-count, tail-at, first-item, ItemAt}
+use Rattle.std.proofs.shelf.Lists.{length-map, getD-map}
+use Rattle.theory.specs.Families.{Item as Symbol, alternatives, alternative, Known, item-count, tail-at, first-item, ItemAt}
 use Rattle.theory.specs.Nullable.{Ranks}
 use Rattle.theory.specs.Tables.{rows}
 use Rattle.theory.proofs.Items.{items-numbered}

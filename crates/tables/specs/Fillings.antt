@@ -9,7 +9,7 @@ use Rattle.theory.specs.Orders.{upward}
 use Rattle.theory.specs.Families.{Family as Rules, item-count, tail-at, Known}
 use Rattle.theory.specs.Totals.{total, tail-total, tail-value}
 use Rattle.theory.specs.Tables.{item-row, rows}
-use Rattle.families.specs.Grammars.{Lists, lists-of, alternative-at}
+use Rattle.families.specs.Grammars.{Lists, alternative-at}
 use Rattle.families.specs.Models.{model, alternative-model}
 use Rattle.families.specs.declared.family.Family.{Family}
 use Rattle.families.specs.declared.item.Item.{Item}

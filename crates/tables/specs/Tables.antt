@@ -16,7 +16,7 @@ use Rattle.theory.specs.Orders.{Splits, upward}
 use Rattle.theory.specs.Families.{Family as Rules, tail-at}
 use Rattle.theory.specs.Totals.{total, tail-total}
 use Rattle.theory.specs.Tables.{entry-at, HoldsTotals}
-use Rattle.families.specs.Grammars.{Lists, lists-of, no-lists}
+use Rattle.families.specs.Grammars.{lists-of}
 use Rattle.families.specs.Models.{model, Sound}
 use Rattle.families.specs.declared.family.Family.{Family}
 use Rattle.families.specs.declared.fault.Fault.{Fault}

@@ -55,7 +55,11 @@ fn put<K: WeightKind>(shape: Shape, table: &mut [K], row: usize, n: usize, value
 fn literal_total<K: WeightKind>(size: u32, cost: u32, k: usize) -> K
     ensures { λ r. ⌜ r ≡ cond (eqb k size) (kind .weigh cost) (kind .none) ⌝ }
 {
-    if k == size as usize { K::weight(cost) } else { K::nothing() }
+    if k == size as usize {
+        K::weight(cost)
+    } else {
+        K::nothing()
+    }
 }
 
 // The total of an item at k. What is neither a name nor a literal stands in no family; it has the total of an empty
@@ -82,7 +86,14 @@ fn item_row(names: usize, alternative: Alternative, slot: usize) -> usize
 }
 
 // The total at k of what begins at `slot`: the unit at 0 where the alternative ends there.
-fn rest_total<K: WeightKind>(shape: Shape, names: usize, table: &[K], alternative: Alternative, slot: usize, k: usize) -> K
+fn rest_total<K: WeightKind>(
+    shape: Shape,
+    names: usize,
+    table: &[K],
+    alternative: Alternative,
+    slot: usize,
+    k: usize,
+) -> K
     requires room { ⌜ entries (shape .rows) (shape .top) ≤ length (now table) ⌝ }
     requires full { ⌜ alternative .count ≤ length (alternative .items) ⌝ }
     requires row { ⌜ (slot < alternative .count → names + (alternative .first + slot) < shape .rows) ⌝ }
@@ -99,7 +110,14 @@ fn rest_total<K: WeightKind>(shape: Shape, names: usize, table: &[K], alternativ
 }
 
 // What the tail that begins at `slot` totals at n: over all splits, the item's total times the rest's.
-fn tail_total<K: WeightKind>(shape: Shape, family: &Family, table: &[K], alternative: Alternative, slot: usize, n: usize) -> K
+fn tail_total<K: WeightKind>(
+    shape: Shape,
+    family: &Family,
+    table: &[K],
+    alternative: Alternative,
+    slot: usize,
+    n: usize,
+) -> K
     requires prepared { ⌜ Prepared (now family) shape (length (now table)) ⌝ }
     requires stands { ⌜ Stands (lists-of (now family .grammar)) alternative ⌝ }
     requires there { ⌜ slot < alternative .count ⌝ }
@@ -119,7 +137,13 @@ fn tail_total<K: WeightKind>(shape: Shape, family: &Family, table: &[K], alterna
 }
 
 // Writes the entries at n of the alternative's items, the last first.
-fn fill_alternative<K: WeightKind>(shape: Shape, family: &Family, table: &mut [K], alternative: Alternative, n: usize)
+fn fill_alternative<K: WeightKind>(
+    shape: Shape,
+    family: &Family,
+    table: &mut [K],
+    alternative: Alternative,
+    n: usize,
+)
     requires prepared { ⌜ Prepared (now family) shape (length (now table)) ⌝ }
     requires stands { ⌜ Stands (lists-of (now family .grammar)) alternative ⌝ }
     requires size { ⌜ n ≤ shape .top ⌝ }
@@ -134,7 +158,14 @@ fn fill_alternative<K: WeightKind>(shape: Shape, family: &Family, table: &mut [K
 }
 
 // Writes the entries at n of all items of the alternatives from `first` on, `count` of them.
-fn fill_alternatives<K: WeightKind>(shape: Shape, family: &Family, table: &mut [K], first: usize, count: usize, n: usize)
+fn fill_alternatives<K: WeightKind>(
+    shape: Shape,
+    family: &Family,
+    table: &mut [K],
+    first: usize,
+    count: usize,
+    n: usize,
+)
     requires prepared { ⌜ Prepared (now family) shape (length (now table)) ⌝ }
     requires there { ⌜ first + count ≤ length (vec-items (now family .grammar .alternatives)) ⌝ }
     requires size { ⌜ n ≤ shape .top ⌝ }

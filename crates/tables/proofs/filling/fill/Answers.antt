@@ -1,10 +1,8 @@
-use mathlib.Core.Path.{_≡_, sym, subst, ap₂, _∙_}
-use Prim.Native.Nat.{ℕ, _+_, _≤_}
+use mathlib.Core.Path.{subst, ap₂, _∙_}
+use Prim.Native.Nat.{ℕ, _+_}
 use native.Mathlib.Omega.{arith}
-use lib.ListN.{length}
 use Rattle.families.specs.Models.{marked}
-use Rattle.tables.specs.Tables.{rules-of, rows-of, entries, Totals, Beyond, Room}
-use Rattle.tables.specs.Fillings.{Ready}
+use Rattle.tables.specs.Tables.{rules-of, entries, Totals}
 use Rattle.tables.proofs.Stored.{rows-model}
 use Rattle.tables.proofs.Sizes.{ready-all}
 use Rattle.tables.proofs.filling.fill.Needs as need

@@ -1,9 +1,7 @@
-use mathlib.Core.Path.{_≡_, sym, subst, ap, _∙_}
-use mathlib.Core.Logic.{_⊎_}
-use Prim.Native.Nat.{ℕ, _+_, _≤_, _<_}
+use mathlib.Core.Path.{sym, subst, ap}
+use Prim.Native.Nat.{_<_}
 use native.Mathlib.Omega.{arith}
 use lib.ListN.{length, getD}
-use Rattle.theory.specs.Nullable.{Ranks}
 use Rattle.families.specs.Grammars.{lists-of}
 use Rattle.families.specs.Models.{marked}
 use Rattle.families.specs.declared.item.Rule.{Rule}
@@ -12,7 +10,6 @@ use Rattle.tables.specs.Fillings.{Among-of}
 use Rattle.tables.proofs.Stored.{length-model, prepared-again, prepared-room, ranks-of}
 use Rattle.tables.proofs.Views.{changed-rows}
 use Rattle.tables.proofs.Sizes.{ready-right, name-done, name-bare}
-use Rattle.tables.proofs.filling.fill_name.Given as given
 use Rattle.tables.proofs.filling.fill_name.Needs as need
 
 pub fill-alternatives-requires : need.fill-alternatives-requires
@@ -48,7 +45,7 @@ returns-then-not-nullable g c =
     let f = c .args .family .now in
     let o = g .K·WeightKind .kind in
     let done = name-bare o (g .K·WeightKind·met .laws) (rules-of f) (marked (f .nullable)) (c .pre .prepared .sound .adopted) (c .args .shape .top) (c .args .n) (c .args .y)
-        (λ z. getD (f .ranks) z 0 < getD (f .ranks) (c .args .y) 0) (c .args .table .now) (c .pre .ready) (c .pre .there) (c .if-n-eq0 .taken) (sym (c .if-not-nullable .ensures tt)) in
+    (λ z. getD (f .ranks) z 0 < getD (f .ranks) (c .args .y) 0) (c .args .table .now) (c .pre .ready) (c .pre .there) (c .if-n-eq0 .taken) (sym (c .if-not-nullable .ensures tt)) in
     record {
       total = done .value;
       changed = changed-rows o (c .args .shape .top) _ (c .args .shape .rows) (c .args .n) _ _ _ (sym (c .pre .prepared .rows-all)) (done .only);
@@ -61,9 +58,9 @@ returns g c =
     let o = g .K·WeightKind .kind in
     let sound = c .pre .prepared .sound in
     let done = name-done o (g .K·WeightKind·met .laws) (rules-of f) (marked (f .nullable)) (sound .adopted) (c .args .shape .top) (c .args .n) (c .pre .size)
-        (λ z. getD (f .ranks) z 0 < getD (f .ranks) (c .args .y) 0) (Among-of (l .alternatives) (c .rule-rule .result .first) (c .rule-rule .result .count))
-        (c .args .table .now) (c .fill-alternatives .last .table) (c .put .last .table) (c .args .y) (c .name-total-total .result) (c .pre .ready) (c .fill-alternatives .ensures) (c .pre .there)
-        (ranks-of f sound) (λ z h e. e) (c .name-total-total .ensures) (prepared-room f (c .args .shape) _ (prepared-again _ _ _ _ (c .pre .prepared) (omega arith))) (c .put .ensures) in
+    (λ z. getD (f .ranks) z 0 < getD (f .ranks) (c .args .y) 0) (Among-of (l .alternatives) (c .rule-rule .result .first) (c .rule-rule .result .count))
+    (c .args .table .now) (c .fill-alternatives .last .table) (c .put .last .table) (c .args .y) (c .name-total-total .result) (c .pre .ready) (c .fill-alternatives .ensures) (c .pre .there)
+    (ranks-of f sound) (λ z h e. e) (c .name-total-total .ensures) (prepared-room f (c .args .shape) _ (prepared-again _ _ _ _ (c .pre .prepared) (omega arith))) (c .put .ensures) in
     record {
       total = done .value;
       changed = changed-rows o (c .args .shape .top) _ (c .args .shape .rows) (c .args .n) _ _ _ (sym (c .pre .prepared .rows-all)) (done .only);

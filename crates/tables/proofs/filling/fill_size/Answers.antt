@@ -1,22 +1,20 @@
-use mathlib.Core.Path.{_≡_, refl, sym, subst, ap, _∙_}
-use Prim.Native.Nat.{ℕ, _+_, _≤_, _<_}
+use mathlib.Core.Path.{refl, sym, subst, ap, _∙_}
+use Prim.Native.Nat.{ℕ, _+_, _<_}
 use native.Mathlib.Omega.{arith}
-use lib.ListN.{length, getD}
+use lib.ListN.{getD}
 use Rattle.families.specs.Grammars.{lists-of}
 use Rattle.families.specs.Models.{marked}
 use Rattle.tables.specs.Tables.{rules-of, entries}
 use Rattle.tables.specs.Fillings.{Among-of}
 use Rattle.tables.proofs.Stored.{length-model, prepared-again, every-item}
 use Rattle.tables.proofs.Sizes.{ready-right, ready-fewer, ready-wrote, ready-size}
-use Rattle.tables.proofs.filling.fill_size.Given as given
 use Rattle.tables.proofs.filling.fill_size.Needs as need
 
 pub loop-rank-holds : need.loop-rank-holds
 loop-rank-holds g c =
-    let f = c .args .family .now in
-    (
+    let f = c .args .family .now in (
       ready-fewer (g .K·WeightKind .kind) (g .K·WeightKind·met .laws) (rules-of f) (marked (f .nullable)) (c .pre .prepared .sound .adopted) (c .args .shape .top) (c .args .n) (c .pre .size)
-      (λ z. ⊥) (c .args .table .now) (c .pre .ready) (λ z. getD (f .ranks) z 0 < 0) (λ z h e. omega (arith, e)),
+          (λ z. ⊥) (c .args .table .now) (c .pre .ready) (λ z. getD (f .ranks) z 0 < 0) (λ z h e. omega (arith, e)),
       λ i d h. refl,
     )
 
@@ -53,7 +51,7 @@ returns g c =
     let N = c .args .shape .top in
     let u = c .fill-alternatives .last .table in
     let again = ready-wrote o laws F nul (sound .adopted) N (c .args .n) (c .pre .size) (λ z. getD (f .ranks) z 0 < c .loop-rank .rank) (c .loop-rank .table) (c .loop-rank .inv .0)
-        (Among-of (l .alternatives) 0 (c .alternatives .result)) u (c .fill-alternatives .ensures) in
+    (Among-of (l .alternatives) 0 (c .alternatives .result)) u (c .fill-alternatives .ensures) in
     record {
       ready = ready-size o laws F nul (sound .adopted) N (c .args .n) (c .pre .size) (λ z. getD (f .ranks) z 0 < c .loop-rank .rank) u again (c .args .n + 1) refl
           (λ z h. omega (arith, sound .ranked .low z h, c .names-rank-end .ensures .value, length-model l))

@@ -1,4 +1,4 @@
-use mathlib.Core.Path.{_≡_, refl, _∙_, ap, ap₂, subst}
+use mathlib.Core.Path.{refl, _∙_, ap, ap₂, subst}
 use Prim.Native.Nat.{ℕ, _+_, _*_, _≤_}
 use native.Mathlib.Omega.{arith}
 use native.Mathlib.Nat.{mul-le-mul}
@@ -27,8 +27,7 @@ returns-in-Break-shape c =
 pub returns-then-index-shape : need.returns-then-index-shape
 returns-then-index-shape c =
     let fits = c .in-Continue-shape .ensures tt in
-    let first = c .first-wrong-index .ensures .wrong (omega (arith, c .if-index-shape .taken, ap (entries (c .in-Continue-shape .shape .rows)) (fits .2))) in
-    (
+    let first = c .first-wrong-index .ensures .wrong (omega (arith, c .if-index-shape .taken, ap (entries (c .in-Continue-shape .shape .rows)) (fits .2))) in (
       record { same-family = refl; same-table = refl; same-top = refl },
       wrong (c .first-wrong-index .result) (fits .0) (subst (λ (n : ℕ). FirstWrong (rules-of (c .args .family .now)) n (c .args .table .now) (c .first-wrong-index .result)) (fits .2) first),
     )
