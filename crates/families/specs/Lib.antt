@@ -7,4 +7,5 @@ pub mod States
 pub mod Steps
 pub mod Files
 pub mod Models
+pub mod Reaches
 pub mod Adopts

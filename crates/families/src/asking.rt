@@ -48,7 +48,7 @@ impl Family {
         ensures { λ r. ⌜ r ≡ found-name (vec-items (now (self .entry) .grammar .rules)) (now (name .entry)) ⌝ }
     {
         let y = self.grammar.index(name);
-        if y < self.grammar.rules.len() { Some(y) } else { None }
+        if y < self.names() { Some(y) } else { None }
     }
 
     // The rule of name y; one without alternatives where there is no such name.

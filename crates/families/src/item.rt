@@ -32,20 +32,20 @@ impl Label {
         &self.bytes[0..end]
     }
 
-    pub fn place(&self) -> usize
+    pub(crate) fn place(&self) -> usize
         ensures { λ r. ⌜ r ≡ now (self .entry) .place ⌝ }
     {
         self.place
     }
 
-    pub fn length(&self) -> usize
+    pub(crate) fn length(&self) -> usize
         ensures { λ r. ⌜ r ≡ now (self .entry) .length ⌝ }
     {
         self.length
     }
 
     // Whether the label says `text`.
-    pub fn says(&self, text: &[u8]) -> bool
+    pub(crate) fn says(&self, text: &[u8]) -> bool
         ensures { λ r. ⌜ r ≡ sameBytes (text-of (now (self .entry))) (now (text .entry)) ⌝ }
     {
         self.text() == text
@@ -93,7 +93,7 @@ pub struct Alternative {
 }
 
 impl Alternative {
-    pub fn new(first: usize) -> Alternative
+    pub(crate) fn new(first: usize) -> Alternative
         ensures { λ r. ⌜ r ≡ no-items first ⌝ }
     {
         Alternative {

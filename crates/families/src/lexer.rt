@@ -15,7 +15,7 @@ use crate::token::Token;
 
 // The kinds of bytes that runs are made of.
 #[derive(Clone, Copy)]
-pub enum Class {
+pub(crate) enum Class {
     Blank,
     NameByte,
     DigitByte,
@@ -146,21 +146,21 @@ fn token_from<'a>(file: &'a [u8], start: usize) -> Result<Spanned<'a>, Fault>
 
 // The reader of tokens: the file, and how far it has been read.
 #[derive(Drop)]
-pub struct Lexer<'a> {
+pub(crate) struct Lexer<'a> {
     file: &'a [u8],
     at: usize,
     ghost within: { at ≤ length (now file) },
 }
 
 impl<'a> Lexer<'a> {
-    pub fn new(file: &'a [u8]) -> Lexer<'a>
+    pub(crate) fn new(file: &'a [u8]) -> Lexer<'a>
         ensures { λ r. ⌜ (now (r .file) ≡ now (file .entry)) × (r .at ≡ 0) ⌝ }
     {
         Lexer { file, at: 0 }
     }
 
     // The next token, or none at the end of the file. A refusal leaves the lexer where it was.
-    pub fn next_token(&mut self) -> Result<Option<Spanned<'a>>, Fault>
+    pub(crate) fn next_token(&mut self) -> Result<Option<Spanned<'a>>, Fault>
         ensures value { λ r. ⌜ scan-of r ≡ scan (now (now (self .entry) .file)) (now (self .entry) .at) ⌝ }
         ensures moved { λ r. ⌜ now (self .exit) .at ≡ next-place (now (self .entry) .at) (length (now (now (self .entry) .file))) (scan-of r) ⌝ }
         ensures onward { λ r. ⌜ made r (λ o. (isSome o ≡ true → now (self .entry) .at < now (self .exit) .at)) ⌝ }

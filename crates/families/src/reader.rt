@@ -10,7 +10,7 @@ use crate::state::State;
 // What was read so far: whole rules in the grammar; of the rule that is begun its name, the number of its first
 // alternative and the alternative that is being read.
 #[derive(Drop)]
-pub struct Reader {
+pub(crate) struct Reader {
     pub(crate) state: State,
     pub(crate) name: Label,
     pub(crate) first: usize,

@@ -2,7 +2,7 @@
 
 // Between rules; behind a rule's name; where an item may come; behind a literal, its colon, its size, its at sign.
 #[derive(Clone, Copy)]
-pub enum State {
+pub(crate) enum State {
     Outside,
     Named,
     Items,

@@ -17,6 +17,8 @@ use Rattle.families.specs.Grammars.{Lists}
 use Rattle.families.specs.Steps.{fresh, reading-of}
 use Rattle.families.specs.Files.{Reads, ends, goes, stops, fails, ReadsFile, lists-answer}
 use Rattle.families.specs.declared.token.Spanned.{Spanned}
+use Rattle.families.specs.Models.{Formed}
+use Rattle.families.proofs.Forms.{file-formed}
 use Rattle.families.proofs.draft.Draft.read.Needs as need
 
 false-true : false ≡ true → ⊥
@@ -86,3 +88,9 @@ returns c =
       answer = subst (λ l. ReadsFile (c .args .file .now) (granted l)) (sym (c .copy-from .ensures)) (short _ _ (omega arith) whole);
       same = λ h. absurd (false-true h);
     }
+
+pub ghost-self-3 : need.ghost-self-3
+ghost-self-3 c =
+    let i = c .loop-t .inv in
+    let whole = i .1 _ (ends (none _ _ _ _ (i .0) (c .in-Continue-t .ensures tt .value) (c .in-rest .is)) (sym (c .in-Continue-finish .ensures tt))) in
+    (∣ subst Formed (sym (c .copy-from .ensures)) (file-formed _ _ (short _ _ (omega arith) whole)) ∣₁, tt)
