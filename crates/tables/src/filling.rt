@@ -6,16 +6,15 @@ ghost use mathlib.Core.Logic.{_⊎_};
 ghost use Prim.Native.Nat.{ℕ, _+_, _-_, _*_, _≤_, _<_};
 ghost use lib.Dec.{eqb};
 ghost use lib.ListN.{length, getD, set, drop};
-ghost use Rattle.std.specs.Of.Vec.{vec-items};
 ghost use Rattle.theory.specs.Orders.{upward};
 ghost use Rattle.theory.specs.Families.{item-count, tail-at};
 ghost use Rattle.theory.specs.Totals.{total as total-of, item-value, tail-value, alternatives-value};
 ghost use Rattle.theory.specs.Tables.{entry-at, tail-entry};
-ghost use Rattle.families.specs.Grammars.{lists-of, rule-at};
+ghost use Rattle.families.specs.Grammars.{lists-of};
 ghost use Rattle.families.specs.Models.{item-model, alternative-model, marked};
 ghost use Rattle.families.specs.declared.item.Label.{Label};
-ghost use Rattle.tables.specs.Tables.{rules-of, Sound-family, rows-of, entries, entry-of, Beyond, Fits, Fills};
-ghost use Rattle.tables.specs.Fillings.{Prepared, Below, Stands, Of, Among-of, Changed, Right, Wrote, Ready};
+ghost use Rattle.tables.specs.Tables.{rules-of, rows-of, entries, entry-of, Beyond, Fits, Fills};
+ghost use Rattle.tables.specs.Fillings.{Prepared, Below, Stands, Of, Under, Changed, Right, Wrote, Ready};
 use crate::kind::WeightKind;
 use crate::shape::Shape;
 use families::family::Family;
@@ -157,23 +156,35 @@ fn fill_alternative<K: WeightKind>(
     }
 }
 
-// Writes the entries at n of all items of the alternatives from `first` on, `count` of them.
+// Writes the entries at n of the items of name y.
 fn fill_alternatives<K: WeightKind>(
     shape: Shape,
     family: &Family,
     table: &mut [K],
-    first: usize,
-    count: usize,
+    y: usize,
     n: usize,
 )
     requires prepared { ⌜ Prepared (now family) shape (length (now table)) ⌝ }
-    requires there { ⌜ first + count ≤ length (vec-items (now family .grammar .alternatives)) ⌝ }
+    requires there { ⌜ y < length (rules-of (now family)) ⌝ }
     requires size { ⌜ n ≤ shape .top ⌝ }
     requires lower { ⌜ ((j k : ℕ) → j < item-count (rules-of (now family)) → k < n → Right kind (rules-of (now family)) (shape .top) (now table) j k) ⌝ }
-    ensures { λ _. ⌜ Wrote kind (rules-of (now (family .entry))) (shape .top) n (Among-of (vec-items (now (family .entry) .grammar .alternatives)) first count) (now (table .entry)) (now (table .exit)) ⌝ }
+    ensures { λ _. ⌜ Wrote kind (rules-of (now (family .entry))) (shape .top) n (Under (lists-of (now (family .entry) .grammar)) y) (now (table .entry)) (now (table .exit)) ⌝ }
 {
-    for a in 0..count {
-        fill_alternative(shape, family, table, family.alternative(first + a), n);
+    let rule = family.rule(y);
+    for a in 0..rule.count {
+        fill_alternative(shape, family, table, family.alternative(rule.first + a), n);
+    }
+}
+
+// Writes the entries at n of all items.
+fn fill_items<K: WeightKind>(shape: Shape, family: &Family, table: &mut [K], n: usize)
+    requires prepared { ⌜ Prepared (now family) shape (length (now table)) ⌝ }
+    requires size { ⌜ n ≤ shape .top ⌝ }
+    requires lower { ⌜ ((j k : ℕ) → j < item-count (rules-of (now family)) → k < n → Right kind (rules-of (now family)) (shape .top) (now table) j k) ⌝ }
+    ensures { λ _. ⌜ Wrote kind (rules-of (now (family .entry))) (shape .top) n (λ j. Unit {0}) (now (table .entry)) (now (table .exit)) ⌝ }
+{
+    for y in 0..family.names() {
+        fill_alternatives(shape, family, table, y, n);
     }
 }
 
@@ -182,7 +193,7 @@ fn name_total<K: WeightKind>(shape: Shape, family: &Family, table: &[K], y: usiz
     requires prepared { ⌜ Prepared (now family) shape (length (now table)) ⌝ }
     requires there { ⌜ y < length (rules-of (now family)) ⌝ }
     requires size { ⌜ n ≤ shape .top ⌝ }
-    requires right { ⌜ ((j : ℕ) → j < item-count (rules-of (now family)) → Among-of (vec-items (now family .grammar .alternatives)) (rule-at (vec-items (now family .grammar .rules)) y .first) (rule-at (vec-items (now family .grammar .rules)) y .count) j → Right kind (rules-of (now family)) (shape .top) (now table) j n) ⌝ }
+    requires right { ⌜ ((j : ℕ) → j < item-count (rules-of (now family)) → Under (lists-of (now family .grammar)) y j → Right kind (rules-of (now family)) (shape .top) (now table) j n) ⌝ }
     ensures { λ r. ⌜ r ≡ alternatives-value kind (rules-of (now (family .entry))) (entry-of kind (shape .top) (now (table .entry))) y n ⌝ }
 {
     let names = family.names();
@@ -208,8 +219,7 @@ fn fill_name<K: WeightKind>(shape: Shape, family: &Family, table: &mut [K], y: u
     if n == 0 && !family.nullable(y) {
         return;
     }
-    let rule = family.rule(y);
-    fill_alternatives(shape, family, table, rule.first, rule.count, n);
+    fill_alternatives(shape, family, table, y, n);
     let total = name_total(shape, family, table, y, n);
     put(shape, table, y, n, total);
 }
@@ -241,7 +251,7 @@ fn fill_size<K: WeightKind>(shape: Shape, family: &Family, table: &mut [K], n: u
     for rank in 0..family.names() {
         fill_rank(shape, family, table, rank, n);
     }
-    fill_alternatives(shape, family, table, 0, family.alternatives(), n);
+    fill_items(shape, family, table, n);
 }
 
 // Writes the none at size 0 for each name that cannot be empty.
@@ -285,7 +295,6 @@ pub(crate) fn shape_for(family: &Family, length: usize, top: usize) -> Result<Sh
 
 // Writes each entry's total into the table, or refuses and writes nothing.
 pub fn fill<K: WeightKind>(family: &Family, table: &mut [K], top: usize) -> Result<(), Fault>
-    requires sound { ⌜ Sound-family (now family) ⌝ }
     ensures { λ r. ⌜ Fills kind r (now (family .entry)) top (now (table .entry)) (now (table .exit)) ⌝ }
 {
     let shape = shape_for(family, table.len(), top)?;

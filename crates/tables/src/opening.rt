@@ -8,7 +8,7 @@ ghost use Rattle.std.specs.Results.{Cases};
 ghost use Rattle.std.specs.declared.option.Option.the-variants.{Some, None};
 ghost use Rattle.families.specs.declared.fault.Fault.the-variants.{OutOfMemory};
 ghost use Rattle.theory.specs.Tables.{rows};
-ghost use Rattle.tables.specs.Tables.{Sound-family, rules-of, rules-open, rows-open, names-open, entries, total-at, Totals};
+ghost use Rattle.tables.specs.Tables.{rules-of, rules-open, rows-open, names-open, entries, total-at, Totals};
 ghost use Rattle.tables.specs.Counts.{count-kind};
 ghost use Rattle.tables.specs.Fillings.{Prepared};
 ghost use Rattle.tables.specs.Openings.{FirstWrong, Opened, count-at};
@@ -76,7 +76,6 @@ impl<'f, 't> OpenTable<'f, 't> {
 
     // Opens the table, where each entry is its total. A refusal leaves what is open as it was.
     pub fn open(&mut self, family: &'f Family, table: &'t [Count], top: usize) -> Result<(), Fault>
-        requires sound { ⌜ Sound-family (now family) ⌝ }
         ensures { λ r. ⌜ Opened r (now (self .entry)) (now (self .exit)) (family .entry) (table .entry) top ⌝ }
     {
         let shape = shape_for(family, table.len(), top)?;

@@ -3,6 +3,7 @@ use Prim.Native.Nat.{ℕ, _+_}
 use native.Mathlib.Omega.{arith}
 use Rattle.families.specs.Models.{marked}
 use Rattle.tables.specs.Tables.{rules-of, entries, Totals}
+use Rattle.tables.proofs.Keeps.{keeps}
 use Rattle.tables.proofs.Stored.{rows-model}
 use Rattle.tables.proofs.Sizes.{ready-all}
 use Rattle.tables.proofs.filling.fill.Needs as need
@@ -12,8 +13,7 @@ fill-all-requires g c κs =
     let fits = c .in-Continue-shape .ensures tt in
     record {
       prepared = record {
-        sound = c .pre .sound;
-        rows-all = fits .1 ∙ rows-model (c .args .family .now) (c .pre .sound);
+        rows-all = fits .1 ∙ rows-model (c .args .family .now);
         room = omega (arith, fits .0 .long, ap₂ entries (fits .1) (fits .2));
       };
     }
@@ -27,7 +27,7 @@ returns g c =
     let s = c .in-Continue-shape .shape in
     record {
       room = fits .0;
-      totals = subst (λ (n : ℕ). Totals o (rules-of f) n u) (fits .2) (ready-all o (g .K·WeightKind·met .laws) (rules-of f) (marked (f .nullable)) (c .pre .sound .adopted) (s .top) u (s .top + 1) (λ z. ⊥) (omega arith) (c .fill-all .ensures .ready));
+      totals = subst (λ (n : ℕ). Totals o (rules-of f) n u) (fits .2) (ready-all o (g .K·WeightKind·met .laws) (rules-of f) (marked (f .nullable)) (keeps (c .args .family .now) .adopted) (s .top) u (s .top + 1) (λ z. ⊥) (omega arith) (c .fill-all .ensures .ready));
       beyond = λ i d h. c .fill-all .ensures .beyond i d (omega (arith, ap₂ entries (fits .1) (fits .2)));
       length-same = omega arith;
     }

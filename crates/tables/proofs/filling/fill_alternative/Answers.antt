@@ -7,6 +7,7 @@ use Rattle.theory.specs.Tables.{item-row}
 use Rattle.families.specs.Grammars.{lists-of}
 use Rattle.tables.specs.Tables.{rules-of}
 use Rattle.tables.specs.Fillings.{Of, Right}
+use Rattle.tables.proofs.Keeps.{keeps}
 use Rattle.tables.proofs.Stored.{length-model, prepared-again, prepared-room}
 use Rattle.tables.proofs.Rows.{wrote-none, wrote-then, wrote-fewer, wrote-right, put-wrote-at}
 use Rattle.tables.proofs.filling.fill_alternative.Needs as need
@@ -17,7 +18,7 @@ From i m j = (i ≤ j) × (j < m)
 
 pub loop-slot-holds : need.loop-slot-holds
 loop-slot-holds g c =
-    wrote-none (g .K·WeightKind .kind) (g .K·WeightKind·met .laws) (rules-of (c .args .family .now)) (c .pre .prepared .sound .adopted .defined) (c .args .shape .top) (c .args .n) (c .pre .size)
+    wrote-none (g .K·WeightKind .kind) (g .K·WeightKind·met .laws) (rules-of (c .args .family .now)) (keeps (c .args .family .now) .adopted .defined) (c .args .shape .top) (c .args .n) (c .pre .size)
     (From (c .args .alternative .first + c .args .alternative .count) (c .args .alternative .first + c .args .alternative .count)) (c .args .table .now) (λ j x. omega (arith, x .0, x .1))
 
 pub tail-total-total-requires : need.tail-total-total-requires
@@ -25,7 +26,7 @@ tail-total-total-requires g c κs =
     let F = rules-of (c .args .family .now) in
     let a = c .args .alternative in
     let p : ℕ = c .loop-slot .slot - 1 + 1 in
-    let again = wrote-right (g .K·WeightKind .kind) (g .K·WeightKind·met .laws) F (c .pre .prepared .sound .adopted .defined) (c .args .shape .top) (c .args .n) (c .pre .size)
+    let again = wrote-right (g .K·WeightKind .kind) (g .K·WeightKind·met .laws) F (keeps (c .args .family .now) .adopted .defined) (c .args .shape .top) (c .args .n) (c .pre .size)
     (From (a .first + c .loop-slot .slot) (a .first + a .count)) (c .args .table .now) (c .loop-slot .table) (c .loop-slot .inv) (c .pre .lower) in
     record {
       prepared = prepared-again _ _ _ _ (c .pre .prepared) (c .loop-slot .kept .table);
@@ -55,7 +56,7 @@ loop-slot-again g c =
     let o = g .K·WeightKind .kind in
     let laws = g .K·WeightKind·met .laws in
     let F = rules-of (c .args .family .now) in
-    let defined = c .pre .prepared .sound .adopted .defined in
+    let defined = keeps (c .args .family .now) .adopted .defined in
     let a = c .args .alternative in
     let slot : ℕ = c .loop-slot .slot - 1 in
     let one = put-wrote-at o laws F defined (c .args .shape .top) (c .args .n) (c .pre .size) (c .loop-slot .table) (c .put .last .table) (a .first + slot) (c .item-row .result) (c .tail-total-total .result)
@@ -68,6 +69,6 @@ loop-slot-again g c =
 
 pub returns : need.returns
 returns g c =
-    wrote-fewer (g .K·WeightKind .kind) (g .K·WeightKind·met .laws) (rules-of (c .args .family .now)) (c .pre .prepared .sound .adopted .defined) (c .args .shape .top) (c .args .n) (c .pre .size)
+    wrote-fewer (g .K·WeightKind .kind) (g .K·WeightKind·met .laws) (rules-of (c .args .family .now)) (keeps (c .args .family .now) .adopted .defined) (c .args .shape .top) (c .args .n) (c .pre .size)
     (From (c .args .alternative .first + c .loop-slot .slot) (c .args .alternative .first + c .args .alternative .count)) (Of (c .args .alternative)) (c .args .table .now) (c .loop-slot .table)
     (λ j x. (omega (arith, x .0), x .1)) (c .loop-slot .inv)

@@ -10,6 +10,7 @@ use Rattle.tables.specs.Counts.{count-kind}
 use Rattle.tables.specs.Tables.{rows-open, rules-open}
 use Rattle.tables.specs.declared.«open_table».OpenTable.{OpenTable}
 use Rattle.tables.proofs.Views.{entry-inside}
+use Rattle.tables.proofs.Stored.{rows-opened}
 use Rattle.tables.proofs.Opens.{open-totals, totals-each}
 use Rattle.tables.proofs.open_table.OpenTable.count.Needs as need
 use Rattle.tables.proofs.open_table.OpenTable.count.Needs.{else-row-rows·by·then-row-rows·else-size-self, else-row-rows·by·else-row-rows}
@@ -42,6 +43,6 @@ returns-else-row-rows c =
       }
       | else-row-rows·by·else-row-rows w ↦ record {
         value = sym (cond-false (ltb (c .args .row) (rows-open (t .family)) && leb (c .args .size) (t .top)) _ 0 (and-left (ltb (c .args .row) (rows-open (t .family))) (leb (c .args .size) (t .top)) (le-ltb (c .args .row) (rows-open (t .family)) (omega (arith, w .if-row-rows .left, c .rows-rows .ensures)))));
-        total = λ h l. absurd (omega (arith, w .if-row-rows .left, c .rows-rows .ensures, t .complete));
+        total = λ h l. absurd (omega (arith, w .if-row-rows .left, c .rows-rows .ensures, rows-opened (t .family)));
       }
     ]

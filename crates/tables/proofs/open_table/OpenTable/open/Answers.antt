@@ -16,7 +16,7 @@ first-wrong-index-requires c κs =
     let most : s .rows * (s .top + 1) ≤ 160 * 41 = mul-le-mul {n₁ = s .rows} {m₁ = s .top + 1} {n₂ = 160} {m₂ = 41} (s .few) (omega (arith, s .low)) in
     record {
       room = omega (arith, fits .0 .long, ap₂ entries (fits .1) (fits .2));
-      prepared = record { sound = c .pre .sound; rows-all = fits .1 ∙ rows-model (c .args .family .now) (c .pre .sound); room = omega (arith, c .as-mut-slice .ensures .len, c .args .self .now .scratch .long) };
+      prepared = record { rows-all = fits .1 ∙ rows-model (c .args .family .now); room = omega (arith, c .as-mut-slice .ensures .len, c .args .self .now .scratch .long) };
     }
 
 pub returns-in-Break-shape : need.returns-in-Break-shape
@@ -37,4 +37,4 @@ ghost-self-2 c =
     let f = c .args .family .now in
     let fits = c .in-Continue-shape .ensures tt in
     let totals = c .first-wrong-index .ensures .right (omega (arith, c .if-index-shape .left, ap (entries (c .in-Continue-shape .shape .rows)) (fits .2))) in
-    (fits .0 .low, (rows-model f (c .pre .sound), (fits .0 .long, (∣ subst (λ (n : ℕ). Totals count-kind (rules-of f) n (c .args .table .now)) (fits .2) totals ∣₁, tt))))
+    (fits .0 .low, (fits .0 .long, (∣ subst (λ (n : ℕ). Totals count-kind (rules-of f) n (c .args .table .now)) (fits .2) totals ∣₁, tt)))
