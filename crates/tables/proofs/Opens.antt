@@ -1,9 +1,9 @@
 -- Tables whose entries are totals, row by row. Assumes nothing.
-use mathlib.Core.Path.{_≡_, refl, sym, ap, _∙_, subst}
-use mathlib.Core.Bool.{Bool, cond}
+use mathlib.Core.Path.{_≡_, sym, ap, _∙_, subst}
+use mathlib.Core.Bool.{Bool}
 use mathlib.Core.List.{List, []}
-use mathlib.Core.Logic.{_⊎_, inl, inr, ⊎-elim, ∥∥₁-elim}
-use Prim.Native.Nat.{ℕ, _+_, _-_, _*_, _≤_, _<_}
+use mathlib.Core.Logic.{⊎-elim, ∥∥₁-elim}
+use Prim.Native.Nat.{ℕ, _-_, _≤_, _<_}
 use native.Mathlib.Nat.{ℕ-set, not-suc-le-zero}
 use native.Mathlib.Omega.{arith}
 use lib.Dec.{ltb}
@@ -11,7 +11,7 @@ use lib.ListN.{length, getD}
 use Rattle.std.proofs.shelf.Tests.{cases-lt, cond-true, cond-false, lt-ltb, le-ltb}
 use Rattle.theory.specs.Kinds.{Kind, Laws}
 use Rattle.theory.specs.Orders.{Splits, upward}
-use Rattle.theory.specs.Families.{Item as Symbol, Family as Rules, item-count, tail-at}
+use Rattle.theory.specs.Families.{Item as Symbol, Family as Rules, tail-at}
 use Rattle.theory.specs.Totals.{total, tail-total, tail-value}
 use Rattle.theory.specs.Tables.{entry-at, item-row, rows}
 use Rattle.theory.proofs.Orders.{upward-splits}
@@ -23,7 +23,7 @@ use Rattle.tables.specs.Fillings.{Ready}
 use Rattle.tables.specs.Openings.{FirstWrong}
 use Rattle.tables.specs.declared.count.Count.{Count}
 use Rattle.tables.specs.declared.«open_table».OpenTable.{OpenTable}
-use Rattle.tables.proofs.KindLaws.{same-count, count-laws}
+use Rattle.tables.proofs.KindLaws.{same-count}
 
 -- a tail's total does not depend on the order
 pub tail-total-any-order : {K : Type 0} (o : Kind K) → Laws o → (S R : ℕ → List ℕ) → Splits S → Splits R → (F : Rules) (is : List Symbol) (n : ℕ) → tail-total o S F is n ≡ tail-total o R F is n

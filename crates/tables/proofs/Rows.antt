@@ -1,18 +1,18 @@
 -- The items' rows: what writes of them keep, and what they are by the names' rows. Assumes nothing.
-use mathlib.Core.Path.{_≡_, refl, sym, ap, ap₂, _∙_, subst}
-use mathlib.Core.List.{List, [], _∷_}
-use mathlib.Core.Logic.{_⊎_, inl, inr, ⊎-elim}
+use mathlib.Core.Path.{_≡_, sym, ap, ap₂, _∙_, subst}
+use mathlib.Core.List.{List, _∷_}
+use mathlib.Core.Logic.{_⊎_, ⊎-elim}
 use mathlib.Core.Bool.{cond}
 use Prim.Native.Nat.{ℕ, suc, _+_, _-_, _≤_, _<_}
 use native.Mathlib.Numerals.{add-one}
 use native.Mathlib.Omega.{arith}
 use lib.Dec.{eqb}
-use lib.ListN.{length, getD, set, drop}
+use lib.ListN.{length, set, drop}
 use lib.Seq.{drop-cons}
 use Rattle.std.proofs.shelf.Lists.{drop-all}
 use Rattle.std.proofs.shelf.Tests.{cases-eq, cases-lt}
 use Rattle.theory.specs.Kinds.{Kind, Laws}
-use Rattle.theory.specs.Families.{Item as Symbol, name, Family as Rules, Defined, item-count, tail-at}
+use Rattle.theory.specs.Families.{name, Family as Rules, Defined, item-count, tail-at}
 use Rattle.theory.specs.Lists.{below}
 use Rattle.theory.specs.Totals.{sum-of, item-value, tail-value}
 use Rattle.theory.specs.Tables.{entry-at, item-row, rows, tail-entry}

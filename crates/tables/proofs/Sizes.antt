@@ -1,18 +1,18 @@
 -- Names by rank, and one size after another. Assumes nothing.
-use mathlib.Core.Path.{_≡_, refl, sym, ap, _∙_, subst}
+use mathlib.Core.Path.{_≡_, sym, ap, _∙_, subst}
 use mathlib.Core.Bool.{Bool, true, false, true≢false}
 use mathlib.Core.List.{List}
 use mathlib.Core.Logic.{_⊎_, inl, inr, ⊎-elim}
 use Prim.Native.Nat.{ℕ, _+_, _≤_, _<_}
 use native.Mathlib.Omega.{arith}
 use lib.ListN.{length, set}
-use Rattle.std.proofs.shelf.Tests.{cases-eq, cases-lt}
+use Rattle.std.proofs.shelf.Tests.{cases-eq}
 use Rattle.theory.specs.Kinds.{Kind, Laws}
-use Rattle.theory.specs.Orders.{Splits, upward}
+use Rattle.theory.specs.Orders.{upward}
 use Rattle.theory.specs.Families.{Family as Rules, item-count, tail-at}
 use Rattle.theory.specs.Nullable.{Adopted, Ranks}
-use Rattle.theory.specs.Totals.{total, tail-total, tail-value, alternatives-value}
-use Rattle.theory.specs.Tables.{entry-at, item-row, rows, HoldsTotals}
+use Rattle.theory.specs.Totals.{total, tail-total, alternatives-value}
+use Rattle.theory.specs.Tables.{entry-at, item-row, rows}
 use Rattle.theory.proofs.Orders.{upward-splits}
 use Rattle.theory.proofs.Items.{tail-known}
 use Rattle.theory.proofs.Totals.{total-any-order, tail-total-value}
@@ -140,11 +140,10 @@ module _ {K : Type 0} (o : Kind K) (N R : ℕ) (nul : ℕ → Bool) (t u : List 
 
   pub bare-put : (v : K) → y < R → entries R N ≤ length u → v ≡ o .none → Bare o N R nul t (set u (entry-at N y 0) v) (y + 1)
   bare-put v h room e =
-      let c = put-changed o N R 0 u y v h (omega arith) in
-      (
+      let c = put-changed o N R 0 u y v h (omega arith) in (
         λ z l b. ⊎-elim
-        (λ (q : z ≡ y). subst (λ (x : ℕ). entry-of o N (set u (entry-at N y 0) v) x 0 ≡ o .none) (sym q) (entry-same o N u y 0 v (entry-inside o N R y 0 (length u) h (omega arith) room) ∙ e))
-        (λ (q : z ≡ y → ⊥). c .others z 0 (omega arith) (λ p x. q x) ∙ before .0 z (omega arith) b)
-        (cases-eq z y),
+            (λ (q : z ≡ y). subst (λ (x : ℕ). entry-of o N (set u (entry-at N y 0) v) x 0 ≡ o .none) (sym q) (entry-same o N u y 0 v (entry-inside o N R y 0 (length u) h (omega arith) room) ∙ e))
+            (λ (q : z ≡ y → ⊥). c .others z 0 (omega arith) (λ p x. q x) ∙ before .0 z (omega arith) b)
+            (cases-eq z y),
         λ i d b. c .beyond i d b ∙ before .1 i d b,
       )

@@ -1,48 +1,50 @@
 -- What stored rules are as names, alternatives and numbered items. Assumes nothing.
 use mathlib.Core.Path.{_≡_, refl, sym, ap, ap₂, _∙_, subst}
 use mathlib.Core.List.{List, [], _∷_, map}
-use mathlib.Core.Logic.{_⊎_, inl, inr}
-use Prim.Native.Nat.{ℕ, zero, suc, _+_, _-_, _≤_, _<_}
-use native.Mathlib.Nat.{zero-add, le-of-suc-le-suc, not-suc-le-zero}
+use Prim.Native.Nat.{ℕ, zero, suc, _+_, _≤_, _<_}
+use native.Mathlib.Nat.{le-of-suc-le-suc, not-suc-le-zero}
 use native.Mathlib.Omega.{arith}
 use lib.ListN.{length, getD, take, drop, length-drop}
 use lib.Seq.{getD-take, getD-drop, length-take-le}
-use Rattle.std.proofs.shelf.Lists.{length-map, getD-map, getD-default}
-use Rattle.theory.specs.Families.{Item as Symbol, name, literal, Family as Rules, alternatives, alternative, Known, item-count, tail-at, first-item, ItemAt}
+use denote.Ref.{RefT}
+use Rattle.std.specs.declared.option.Option.{Option}
+use Rattle.std.specs.declared.option.Option.the-variants.{Some, None}
+use Rattle.std.proofs.shelf.Lists.{length-map, getD-map}
+use Rattle.theory.specs.Families.{Item as Symbol, alternatives, alternative, Known, Defined, item-count, tail-at, first-item, ItemAt}
 use Rattle.theory.specs.Nullable.{Ranks}
 use Rattle.theory.specs.Tables.{rows}
 use Rattle.theory.proofs.Items.{items-numbered}
 use Rattle.families.specs.Items.{item-at, no-items}
 use Rattle.families.specs.Grammars.{Lists, lists-of, no-rule, rule-at, alternative-at}
-use Rattle.families.specs.Models.{item-model, alternative-model, rule-model, model, Formed, marked}
+use Rattle.families.specs.Models.{item-model, alternative-model, rule-model, model, marked}
 use Rattle.families.specs.declared.family.Family.{Family}
 use Rattle.families.specs.declared.item.Item.{Item}
 use Rattle.families.specs.declared.item.Item.the-variants.{Vacant, Use, Name, Literal}
 use Rattle.families.specs.declared.item.Label.{Label}
 use Rattle.families.specs.declared.item.Rule.{Rule}
 use Rattle.families.specs.declared.item.Alternative.{Alternative}
-use Rattle.families.proofs.Facts.{sound-out}
-use Rattle.tables.specs.Tables.{Sound-family, rules-of, rows-of, entries}
-use Rattle.tables.specs.Fillings.{Prepared, Below, Stands, Of, Among-of}
+use Rattle.tables.specs.Tables.{rules-of, rows-of, rules-open, rows-open, entries}
+use Rattle.tables.specs.Fillings.{Prepared, Below, Stands, Of, Under}
 use Rattle.tables.specs.declared.shape.Shape.{Shape}
+use Rattle.tables.proofs.Keeps.{Fitting, keeps}
 
 pub length-model : (l : Lists) → length (model l) ≡ length (l .rules)
 length-model l = length-map (l .rules) (rule-model l)
 
--- what every family keeps
-pub family-sound : (f : Family) → Sound-family f
-family-sound f = sound-out (lists-of (f .grammar)) (f .nullable) (f .ranks) (f .sound)
+pub rows-model : (f : Family) → rows-of f ≡ rows (rules-of f)
+rows-model f = ap₂ _+_ (sym (length-model (lists-of (f .grammar)))) (sym (keeps f .fitting .counted))
 
-pub rows-model : (f : Family) → Sound-family f → rows-of f ≡ rows (rules-of f)
-rows-model f sound = ap₂ _+_ (sym (length-model (lists-of (f .grammar)))) (sym (sound .formed .counted))
+pub rows-opened : (o : Option (RefT Family)) → rows-open o ≡ rows (rules-open o)
+rows-opened None = refl
+rows-opened (Some f) = rows-model (f .now)
 
 -- the family's ranks
-abbrev pub ranks-of : (f : Family) → Sound-family f → Ranks (rules-of f) (marked (f .nullable))
-ranks-of f sound = record { rank = λ y. getD (f .ranks) y 0; low = sound .ranked .low; falls = sound .ranked .falls }
+abbrev pub ranks-of : (f : Family) → Ranks (rules-of f) (marked (f .nullable))
+ranks-of f = record { rank = λ y. getD (f .ranks) y 0; low = keeps f .ranked .low; falls = keeps f .ranked .falls }
 
 -- as many entries in another table
 pub prepared-again : (f : Family) (s : Shape) (m n : ℕ) → Prepared f s m → n ≡ m → Prepared f s n
-prepared-again f s m n p e = record { sound = p .sound; rows-all = p .rows-all; room = omega (arith, p .room) }
+prepared-again f s m n p e = record { rows-all = p .rows-all; room = omega (arith, p .room) }
 
 -- how many entries there are, by the family
 pub prepared-room : (f : Family) (s : Shape) (n : ℕ) → Prepared f s n → entries (rows (rules-of f)) (s .top) ≤ n
@@ -81,6 +83,10 @@ pub item-below : (l : Lists) (a : Alternative) → Stands l a → (p m : ℕ) �
 item-below l a s p m h w =
     below-up (length (model l)) m (item-at a p) w (below-at (l .labels) (length (model l)) (a .count) p (a .items) (s .known) h (omega (arith, s .six, s .full)))
 
+-- the item j is of one of the first n alternatives of the rule y
+abbrev pub Upto : Lists → ℕ → ℕ → ℕ → Type 0
+Upto l y n j = (a : ℕ) × (a < n) × Of (alternative-at (l .alternatives) (rule-at (l .rules) y .first + a)) j
+
 -- x is the alternative a of the rule y
 pub record Found (l : Lists) (y a : ℕ) (x : Alternative) : Type 0 where
   pub below : a < rule-at (l .rules) y .count
@@ -88,7 +94,7 @@ pub record Found (l : Lists) (y a : ℕ) (x : Alternative) : Type 0 where
   pub stood : Stands l x
   pub items : alternative (model l) y a ≡ alternative-model (l .labels) x
 
-module _ (l : Lists) (formed : Formed l) where
+module _ (l : Lists) (formed : Fitting l) (defined : Defined (model l)) where
   module _ (y : ℕ) (there : y < length (l .rules)) where
     rule-here : alternatives (model l) y ≡ rule-model l (rule-at (l .rules) y)
     rule-here = getD-map (rule-model l) (l .rules) y no-rule [] there
@@ -127,7 +133,7 @@ module _ (l : Lists) (formed : Formed l) where
         full = six-here .1;
         inside = λ p w. subst (λ (j : ℕ). j + p < item-count (model l)) (sym (formed .numbered y a there h)) (number-here p w .within);
         tail = λ p w. ap (λ j. tail-at (model l) (j + p)) (formed .numbered y a there h) ∙ number-here p w .tail ∙ ap (drop p) (alternative-here a h);
-        known = subst (Known (length (model l))) (alternative-here a h) (formed .defined y a);
+        known = subst (Known (length (model l))) (alternative-here a h) (defined y a);
       }
 
     -- the alternative a of the rule, however it was found
@@ -142,21 +148,15 @@ module _ (l : Lists) (formed : Formed l) where
           items = alternative-here a b ∙ ap (alternative-model (l .labels)) (sym same);
         }
 
-  pub stands-at : (i : ℕ) → i < length (l .alternatives) → Stands l (alternative-at (l .alternatives) i)
-  stands-at i h =
-      let o = formed .owned i h in
-      subst (λ (k : ℕ). Stands l (alternative-at (l .alternatives) k)) (sym (o .4)) (stands (o .0) (o .2) (o .1) (o .3))
-
   -- each item is of some alternative
-  pub every-item : (j : ℕ) → j < item-count (model l) → Among-of (l .alternatives) 0 (length (l .alternatives)) j
+  pub every-item : (j : ℕ) → j < item-count (model l) → (y : ℕ) × (y < length (model l)) × Under l y j
   every-item j h = at (items-numbered (model l) .place j h)
     where
-      at : ((y : ℕ) × (a : ℕ) × (p : ℕ) × (y < length (model l)) × (a < length (alternatives (model l) y)) × (p < length (alternative (model l) y a)) × ItemAt (model l) y a p j) → Among-of (l .alternatives) 0 (length (l .alternatives)) j
+      at : ((y : ℕ) × (a : ℕ) × (p : ℕ) × (y < length (model l)) × (a < length (alternatives (model l) y)) × (p < length (alternative (model l) y a)) × ItemAt (model l) y a p j) → (y : ℕ) × (y < length (model l)) × Under l y j
       at (y, a, p, hy, ha, hp, q) =
           let there : y < length (l .rules) = omega (arith, length-model l) in
           let b : a < rule-at (l .rules) y .count = omega (arith, length-alternatives y there) in
           let s = stands y there a b in
-          let i : ℕ = rule-at (l .rules) y .first + a in
-          let alt = alternative-at (l .alternatives) i in
+          let alt = alternative-at (l .alternatives) (rule-at (l .rules) y .first + a) in
           let len : length (alternative (model l) y a) ≡ alt .count = ap length (alternative-here y there a b) ∙ length-alternative (l .labels) alt (omega (arith, s .six, s .full)) in
-          (i, omega (arith, formed .inside y there), subst (λ (k : ℕ). Of (alternative-at (l .alternatives) k) j) (sym (zero-add i)) (omega (arith, q .is, formed .numbered y a there b), omega (arith, q .is, formed .numbered y a there b)))
+          (y, hy, (a, b, (omega (arith, q .is, formed .numbered y a there b), omega (arith, q .is, formed .numbered y a there b))))

@@ -1,15 +1,14 @@
 -- What a write to one entry of a table leaves. Assumes nothing.
-use mathlib.Core.Path.{_≡_, refl, sym, _∙_, subst}
+use mathlib.Core.Path.{_≡_, refl, _∙_, subst}
 use mathlib.Core.List.{List}
-use mathlib.Core.Logic.{_⊎_, inl, inr}
-use Prim.Native.Nat.{ℕ, _+_, _≤_, _<_}
+use Prim.Native.Nat.{ℕ, _≤_, _<_}
 use native.Mathlib.Omega.{arith}
-use lib.ListN.{length, getD, set}
+use lib.ListN.{length, set}
 use lib.Seq.{getD-set-same, getD-set-other}
 use Rattle.theory.specs.Kinds.{Kind}
 use Rattle.theory.specs.Tables.{entry-at}
 use Rattle.theory.proofs.Tables.{entries-placed}
-use Rattle.tables.specs.Tables.{entries, entry-of, Beyond}
+use Rattle.tables.specs.Tables.{entries, entry-of}
 use Rattle.tables.specs.Fillings.{Changed}
 
 module _ {K : Type 0} (o : Kind K) (N : ℕ) where

@@ -9,18 +9,17 @@ use Rattle.theory.specs.Orders.{upward}
 use Rattle.theory.specs.Families.{Family as Rules, item-count, tail-at, Known}
 use Rattle.theory.specs.Totals.{total, tail-total, tail-value}
 use Rattle.theory.specs.Tables.{item-row, rows}
-use Rattle.families.specs.Grammars.{Lists, lists-of, alternative-at}
+use Rattle.families.specs.Grammars.{Lists, rule-at, alternative-at}
 use Rattle.families.specs.Models.{model, alternative-model}
 use Rattle.families.specs.declared.family.Family.{Family}
 use Rattle.families.specs.declared.item.Item.{Item}
 use Rattle.families.specs.declared.item.Item.the-variants.{Vacant, Use, Name, Literal}
 use Rattle.families.specs.declared.item.Alternative.{Alternative}
-use Rattle.tables.specs.Tables.{rules-of, Sound-family, entries, entry-of, Beyond}
+use Rattle.tables.specs.Tables.{rules-of, entries, entry-of, Beyond}
 use Rattle.tables.specs.declared.shape.Shape.{Shape}
 
 -- a table of `size` entries has place for the family's, in that shape
 pub record Prepared (f : Family) (s : Shape) (size : ℕ) : Type 0 where
-  pub sound : Sound-family f
   pub rows-all : s .rows ≡ rows (rules-of f)
   pub room : entries (s .rows) (s .top) ≤ size
 
@@ -43,9 +42,9 @@ pub record Stands (l : Lists) (a : Alternative) : Type 0 where
 abbrev pub Of : Alternative → ℕ → Type 0
 Of a j = (a .first ≤ j) × (j < a .first + a .count)
 
--- it is of one of the alternatives from i on, n of them
-abbrev pub Among-of : List Alternative → ℕ → ℕ → ℕ → Type 0
-Among-of xs i n j = (a : ℕ) × (a < n) × Of (alternative-at xs (i + a)) j
+-- it is of one of the alternatives of the rule y
+abbrev pub Under : Lists → ℕ → ℕ → Type 0
+Under l y j = (a : ℕ) × (a < rule-at (l .rules) y .count) × Of (alternative-at (l .alternatives) (rule-at (l .rules) y .first + a)) j
 
 -- the table u is t, but for entries of the size n in rows of W
 pub record Changed {K : Type 0} (o : Kind K) (r N n : ℕ) (W : ℕ → Type 0) (t u : List K) : Type 0 where

@@ -16,8 +16,8 @@ use Rattle.theory.specs.Orders.{Splits, upward}
 use Rattle.theory.specs.Families.{Family as Rules, tail-at}
 use Rattle.theory.specs.Totals.{total, tail-total}
 use Rattle.theory.specs.Tables.{entry-at, HoldsTotals}
-use Rattle.families.specs.Grammars.{Lists, lists-of, no-lists}
-use Rattle.families.specs.Models.{model, Sound}
+use Rattle.families.specs.Grammars.{lists-of}
+use Rattle.families.specs.Models.{model}
 use Rattle.families.specs.declared.family.Family.{Family}
 use Rattle.families.specs.declared.fault.Fault.{Fault}
 use Rattle.families.specs.declared.fault.Fault.the-variants.{TopTooLarge, TableTooShort}
@@ -26,9 +26,6 @@ use Rattle.tables.specs.declared.shape.Shape.{Shape}
 -- the names, alternatives and items of an adopted family
 abbrev pub rules-of : Family → Rules
 rules-of f = model (lists-of (f .grammar))
-
-abbrev pub Sound-family : Family → Type 0
-Sound-family f = Sound (lists-of (f .grammar)) (f .nullable) (f .ranks)
 
 -- one row for each name and then one for each item
 abbrev pub rows-of : Family → ℕ

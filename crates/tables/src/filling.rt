@@ -6,16 +6,15 @@ ghost use mathlib.Core.Logic.{_⊎_};
 ghost use Prim.Native.Nat.{ℕ, _+_, _-_, _*_, _≤_, _<_};
 ghost use lib.Dec.{eqb};
 ghost use lib.ListN.{length, getD, set, drop};
-ghost use Rattle.std.specs.Of.Vec.{vec-items};
 ghost use Rattle.theory.specs.Orders.{upward};
 ghost use Rattle.theory.specs.Families.{item-count, tail-at};
 ghost use Rattle.theory.specs.Totals.{total as total-of, item-value, tail-value, alternatives-value};
 ghost use Rattle.theory.specs.Tables.{entry-at, tail-entry};
-ghost use Rattle.families.specs.Grammars.{lists-of, rule-at};
+ghost use Rattle.families.specs.Grammars.{lists-of};
 ghost use Rattle.families.specs.Models.{item-model, alternative-model, marked};
 ghost use Rattle.families.specs.declared.item.Label.{Label};
-ghost use Rattle.tables.specs.Tables.{rules-of, Sound-family, rows-of, entries, entry-of, Beyond, Fits, Fills};
-ghost use Rattle.tables.specs.Fillings.{Prepared, Below, Stands, Of, Among-of, Changed, Right, Wrote, Ready};
+ghost use Rattle.tables.specs.Tables.{rules-of, rows-of, entries, entry-of, Beyond, Fits, Fills};
+ghost use Rattle.tables.specs.Fillings.{Prepared, Below, Stands, Of, Under, Changed, Right, Wrote, Ready};
 use crate::kind::WeightKind;
 use crate::shape::Shape;
 use families::family::Family;
@@ -55,7 +54,11 @@ fn put<K: WeightKind>(shape: Shape, table: &mut [K], row: usize, n: usize, value
 fn literal_total<K: WeightKind>(size: u32, cost: u32, k: usize) -> K
     ensures { λ r. ⌜ r ≡ cond (eqb k size) (kind .weigh cost) (kind .none) ⌝ }
 {
-    if k == size as usize { K::weight(cost) } else { K::nothing() }
+    if k == size as usize {
+        K::weight(cost)
+    } else {
+        K::nothing()
+    }
 }
 
 // The total of an item at k. What is neither a name nor a literal stands in no family; it has the total of an empty
@@ -82,7 +85,14 @@ fn item_row(names: usize, alternative: Alternative, slot: usize) -> usize
 }
 
 // The total at k of what begins at `slot`: the unit at 0 where the alternative ends there.
-fn rest_total<K: WeightKind>(shape: Shape, names: usize, table: &[K], alternative: Alternative, slot: usize, k: usize) -> K
+fn rest_total<K: WeightKind>(
+    shape: Shape,
+    names: usize,
+    table: &[K],
+    alternative: Alternative,
+    slot: usize,
+    k: usize,
+) -> K
     requires room { ⌜ entries (shape .rows) (shape .top) ≤ length (now table) ⌝ }
     requires full { ⌜ alternative .count ≤ length (alternative .items) ⌝ }
     requires row { ⌜ (slot < alternative .count → names + (alternative .first + slot) < shape .rows) ⌝ }
@@ -99,7 +109,14 @@ fn rest_total<K: WeightKind>(shape: Shape, names: usize, table: &[K], alternativ
 }
 
 // What the tail that begins at `slot` totals at n: over all splits, the item's total times the rest's.
-fn tail_total<K: WeightKind>(shape: Shape, family: &Family, table: &[K], alternative: Alternative, slot: usize, n: usize) -> K
+fn tail_total<K: WeightKind>(
+    shape: Shape,
+    family: &Family,
+    table: &[K],
+    alternative: Alternative,
+    slot: usize,
+    n: usize,
+) -> K
     requires prepared { ⌜ Prepared (now family) shape (length (now table)) ⌝ }
     requires stands { ⌜ Stands (lists-of (now family .grammar)) alternative ⌝ }
     requires there { ⌜ slot < alternative .count ⌝ }
@@ -119,7 +136,13 @@ fn tail_total<K: WeightKind>(shape: Shape, family: &Family, table: &[K], alterna
 }
 
 // Writes the entries at n of the alternative's items, the last first.
-fn fill_alternative<K: WeightKind>(shape: Shape, family: &Family, table: &mut [K], alternative: Alternative, n: usize)
+fn fill_alternative<K: WeightKind>(
+    shape: Shape,
+    family: &Family,
+    table: &mut [K],
+    alternative: Alternative,
+    n: usize,
+)
     requires prepared { ⌜ Prepared (now family) shape (length (now table)) ⌝ }
     requires stands { ⌜ Stands (lists-of (now family .grammar)) alternative ⌝ }
     requires size { ⌜ n ≤ shape .top ⌝ }
@@ -133,16 +156,35 @@ fn fill_alternative<K: WeightKind>(shape: Shape, family: &Family, table: &mut [K
     }
 }
 
-// Writes the entries at n of all items of the alternatives from `first` on, `count` of them.
-fn fill_alternatives<K: WeightKind>(shape: Shape, family: &Family, table: &mut [K], first: usize, count: usize, n: usize)
+// Writes the entries at n of the items of name y.
+fn fill_alternatives<K: WeightKind>(
+    shape: Shape,
+    family: &Family,
+    table: &mut [K],
+    y: usize,
+    n: usize,
+)
     requires prepared { ⌜ Prepared (now family) shape (length (now table)) ⌝ }
-    requires there { ⌜ first + count ≤ length (vec-items (now family .grammar .alternatives)) ⌝ }
+    requires there { ⌜ y < length (rules-of (now family)) ⌝ }
     requires size { ⌜ n ≤ shape .top ⌝ }
     requires lower { ⌜ ((j k : ℕ) → j < item-count (rules-of (now family)) → k < n → Right kind (rules-of (now family)) (shape .top) (now table) j k) ⌝ }
-    ensures { λ _. ⌜ Wrote kind (rules-of (now (family .entry))) (shape .top) n (Among-of (vec-items (now (family .entry) .grammar .alternatives)) first count) (now (table .entry)) (now (table .exit)) ⌝ }
+    ensures { λ _. ⌜ Wrote kind (rules-of (now (family .entry))) (shape .top) n (Under (lists-of (now (family .entry) .grammar)) y) (now (table .entry)) (now (table .exit)) ⌝ }
 {
-    for a in 0..count {
-        fill_alternative(shape, family, table, family.alternative(first + a), n);
+    let rule = family.rule(y);
+    for a in 0..rule.count {
+        fill_alternative(shape, family, table, family.alternative(rule.first + a), n);
+    }
+}
+
+// Writes the entries at n of all items.
+fn fill_items<K: WeightKind>(shape: Shape, family: &Family, table: &mut [K], n: usize)
+    requires prepared { ⌜ Prepared (now family) shape (length (now table)) ⌝ }
+    requires size { ⌜ n ≤ shape .top ⌝ }
+    requires lower { ⌜ ((j k : ℕ) → j < item-count (rules-of (now family)) → k < n → Right kind (rules-of (now family)) (shape .top) (now table) j k) ⌝ }
+    ensures { λ _. ⌜ Wrote kind (rules-of (now (family .entry))) (shape .top) n (λ j. Unit {0}) (now (table .entry)) (now (table .exit)) ⌝ }
+{
+    for y in 0..family.names() {
+        fill_alternatives(shape, family, table, y, n);
     }
 }
 
@@ -151,7 +193,7 @@ fn name_total<K: WeightKind>(shape: Shape, family: &Family, table: &[K], y: usiz
     requires prepared { ⌜ Prepared (now family) shape (length (now table)) ⌝ }
     requires there { ⌜ y < length (rules-of (now family)) ⌝ }
     requires size { ⌜ n ≤ shape .top ⌝ }
-    requires right { ⌜ ((j : ℕ) → j < item-count (rules-of (now family)) → Among-of (vec-items (now family .grammar .alternatives)) (rule-at (vec-items (now family .grammar .rules)) y .first) (rule-at (vec-items (now family .grammar .rules)) y .count) j → Right kind (rules-of (now family)) (shape .top) (now table) j n) ⌝ }
+    requires right { ⌜ ((j : ℕ) → j < item-count (rules-of (now family)) → Under (lists-of (now family .grammar)) y j → Right kind (rules-of (now family)) (shape .top) (now table) j n) ⌝ }
     ensures { λ r. ⌜ r ≡ alternatives-value kind (rules-of (now (family .entry))) (entry-of kind (shape .top) (now (table .entry))) y n ⌝ }
 {
     let names = family.names();
@@ -177,8 +219,7 @@ fn fill_name<K: WeightKind>(shape: Shape, family: &Family, table: &mut [K], y: u
     if n == 0 && !family.nullable(y) {
         return;
     }
-    let rule = family.rule(y);
-    fill_alternatives(shape, family, table, rule.first, rule.count, n);
+    fill_alternatives(shape, family, table, y, n);
     let total = name_total(shape, family, table, y, n);
     put(shape, table, y, n, total);
 }
@@ -210,7 +251,7 @@ fn fill_size<K: WeightKind>(shape: Shape, family: &Family, table: &mut [K], n: u
     for rank in 0..family.names() {
         fill_rank(shape, family, table, rank, n);
     }
-    fill_alternatives(shape, family, table, 0, family.alternatives(), n);
+    fill_items(shape, family, table, n);
 }
 
 // Writes the none at size 0 for each name that cannot be empty.

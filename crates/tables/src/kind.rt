@@ -116,7 +116,9 @@ pub impl WeightKind for Cheapest as CheapestKind {
         ensures same { λ r. ⌜ r ≡ cheapest-kind .none ⌝ }
         ensures means { λ r. ⌜ r .cost ≡ 4294967295 ⌝ }
     {
-        Cheapest { cost: 4_294_967_295 }
+        Cheapest {
+            cost: 4_294_967_295,
+        }
     }
 
     fn one() -> Cheapest

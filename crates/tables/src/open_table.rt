@@ -1,9 +1,7 @@
 // Open tables.
-ghost use mathlib.Core.Path.{_≡_};
 ghost use Prim.Native.Nat.{_≤_};
 ghost use lib.ListN.{length};
 ghost use denote.Ref.{now};
-ghost use Rattle.theory.specs.Tables.{rows};
 ghost use Rattle.tables.specs.Tables.{entries, rows-open, rules-open, Totals};
 ghost use Rattle.tables.specs.Counts.{count-kind};
 use crate::count::Count;
@@ -19,7 +17,6 @@ pub struct OpenTable<'f, 't> {
     pub(crate) top: usize,
     pub(crate) scratch: Scratch,
     ghost low: { top ≤ 40 },
-    ghost complete: { rows-open family ≡ rows (rules-open family) },
     ghost room: { entries (rows-open family) top ≤ length (now table) },
     ghost totals: { ∥ Totals count-kind (rules-open family) top (now table) ∥₁ },
 }

@@ -1,10 +1,9 @@
-use mathlib.Core.Path.{_≡_, refl, sym, _∙_, ap, subst}
+use mathlib.Core.Path.{refl, sym, _∙_, subst}
 use mathlib.Core.List.{List}
 use Prim.Native.Nat.{_+_, _<_}
 use native.Mathlib.Omega.{arith}
 use Rattle.families.specs.Grammars.{lists-of}
 use Rattle.families.specs.Models.{marked}
-use Rattle.tables.specs.Tables.{rules-of}
 use Rattle.tables.proofs.Stored.{length-model}
 use Rattle.tables.proofs.Sizes.{Bare, bare-put, bare-skip}
 use Rattle.tables.proofs.filling.fill_bare.Given as given
@@ -31,10 +30,10 @@ loop-y-again g c =
     let nul = marked (c .args .family .now .nullable) in
     let t = c .args .table .now in
     elim (c .if-not-nullable .came) [
-      then-not-nullable w ↦
+      | then-not-nullable w ↦
           subst (λ (u : List _). Bare o (s .top) (s .rows) nul t u (c .loop-y .y + 1)) (sym (w .table-is ∙ w .put .ensures))
           (bare-put o (s .top) (s .rows) nul t (c .loop-y .table) (c .loop-y .y) (c .loop-y .inv) (w .nothing .result) (row g c) (omega (arith, c .pre .prepared .room)) (w .nothing .ensures))
-    | else-not-nullable w ↦
+      | else-not-nullable w ↦
           subst (λ (u : List _). Bare o (s .top) (s .rows) nul t u (c .loop-y .y + 1)) (sym (w .table-is))
           (bare-skip o (s .top) (s .rows) nul t (c .loop-y .table) (c .loop-y .y) (c .loop-y .inv) (sym (w .if-not-nullable .ensures tt)))
     ]

@@ -1,8 +1,6 @@
 use borrow.Author.Count.{below-more}
-use mathlib.Core.Path.{_≡_, sym, ap, _∙_}
-use Prim.Native.Nat.{_≤_, _<_}
+use mathlib.Core.Path.{sym, ap, _∙_}
 use native.Mathlib.Omega.{arith}
-use lib.ListN.{length, getD}
 use Rattle.std.proofs.shelf.Lists.{getD-default}
 use Rattle.tables.specs.Counts.{count-kind}
 use Rattle.tables.proofs.KindLaws.{same-count}

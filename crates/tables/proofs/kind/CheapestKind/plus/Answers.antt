@@ -7,4 +7,3 @@ returns-then-other-self c = record { same = same-cost (omega arith); means = ome
 
 pub returns-else-other-self : need.returns-else-other-self
 returns-else-other-self c = record { same = same-cost (omega arith); means = omega arith }
-

@@ -1,15 +1,16 @@
-use mathlib.Core.Path.{_≡_, sym, ap, _∙_}
-use mathlib.Core.Bool.{cond, _&&_}
+use mathlib.Core.Path.{sym, ap, _∙_}
+use mathlib.Core.Bool.{_&&_}
 use Prim.Native.Nat.{ℕ, _+_, _*_, _<_, _≤_}
 use native.Mathlib.Omega.{arith}
 use lib.Dec.{ltb, leb}
-use lib.ListN.{length, getD}
+use lib.ListN.{length}
 use Rattle.std.proofs.shelf.Lists.{getD-default}
 use Rattle.std.proofs.shelf.Tests.{cond-true, cond-false, and-from, and-left, and-right, lt-ltb, le-ltb, le-leb, lt-leb}
 use Rattle.tables.specs.Counts.{count-kind}
 use Rattle.tables.specs.Tables.{rows-open, rules-open}
 use Rattle.tables.specs.declared.«open_table».OpenTable.{OpenTable}
 use Rattle.tables.proofs.Views.{entry-inside}
+use Rattle.tables.proofs.Stored.{rows-opened}
 use Rattle.tables.proofs.Opens.{open-totals, totals-each}
 use Rattle.tables.proofs.open_table.OpenTable.count.Needs as need
 use Rattle.tables.proofs.open_table.OpenTable.count.Needs.{else-row-rows·by·then-row-rows·else-size-self, else-row-rows·by·else-row-rows}
@@ -36,12 +37,12 @@ pub returns-else-row-rows : need.returns-else-row-rows
 returns-else-row-rows c =
     let t = c .args .self .now in
     elim (c .else-row-rows .came) [
-      else-row-rows·by·then-row-rows·else-size-self w ↦ record {
+      | else-row-rows·by·then-row-rows·else-size-self w ↦ record {
         value = sym (cond-false (ltb (c .args .row) (rows-open (t .family)) && leb (c .args .size) (t .top)) _ 0 (and-right (ltb (c .args .row) (rows-open (t .family))) (leb (c .args .size) (t .top)) (lt-leb (c .args .size) (t .top) (w .if-size-self .left))));
         total = λ h l. absurd (omega (arith, w .if-size-self .left));
       }
-    | else-row-rows·by·else-row-rows w ↦ record {
+      | else-row-rows·by·else-row-rows w ↦ record {
         value = sym (cond-false (ltb (c .args .row) (rows-open (t .family)) && leb (c .args .size) (t .top)) _ 0 (and-left (ltb (c .args .row) (rows-open (t .family))) (leb (c .args .size) (t .top)) (le-ltb (c .args .row) (rows-open (t .family)) (omega (arith, w .if-row-rows .left, c .rows-rows .ensures)))));
-        total = λ h l. absurd (omega (arith, w .if-row-rows .left, c .rows-rows .ensures, t .complete));
+        total = λ h l. absurd (omega (arith, w .if-row-rows .left, c .rows-rows .ensures, rows-opened (t .family)));
       }
     ]

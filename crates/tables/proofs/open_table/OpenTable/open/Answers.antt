@@ -1,4 +1,4 @@
-use mathlib.Core.Path.{_≡_, refl, _∙_, ap, ap₂, subst}
+use mathlib.Core.Path.{refl, _∙_, ap, ap₂, subst}
 use Prim.Native.Nat.{ℕ, _+_, _*_, _≤_}
 use native.Mathlib.Omega.{arith}
 use native.Mathlib.Nat.{mul-le-mul}
@@ -16,7 +16,7 @@ first-wrong-index-requires c κs =
     let most : s .rows * (s .top + 1) ≤ 160 * 41 = mul-le-mul {n₁ = s .rows} {m₁ = s .top + 1} {n₂ = 160} {m₂ = 41} (s .few) (omega (arith, s .low)) in
     record {
       room = omega (arith, fits .0 .long, ap₂ entries (fits .1) (fits .2));
-      prepared = record { sound = family-sound (c .args .family .now); rows-all = fits .1 ∙ rows-model (c .args .family .now) (family-sound (c .args .family .now)); room = omega (arith, c .as-mut-slice .ensures .len, c .args .self .now .scratch .long) };
+      prepared = record { rows-all = fits .1 ∙ rows-model (c .args .family .now); room = omega (arith, c .as-mut-slice .ensures .len, c .args .self .now .scratch .long) };
     }
 
 pub returns-in-Break-shape : need.returns-in-Break-shape
@@ -27,8 +27,7 @@ returns-in-Break-shape c =
 pub returns-then-index-shape : need.returns-then-index-shape
 returns-then-index-shape c =
     let fits = c .in-Continue-shape .ensures tt in
-    let first = c .first-wrong-index .ensures .wrong (omega (arith, c .if-index-shape .taken, ap (entries (c .in-Continue-shape .shape .rows)) (fits .2))) in
-    (
+    let first = c .first-wrong-index .ensures .wrong (omega (arith, c .if-index-shape .taken, ap (entries (c .in-Continue-shape .shape .rows)) (fits .2))) in (
       record { same-family = refl; same-table = refl; same-top = refl },
       wrong (c .first-wrong-index .result) (fits .0) (subst (λ (n : ℕ). FirstWrong (rules-of (c .args .family .now)) n (c .args .table .now) (c .first-wrong-index .result)) (fits .2) first),
     )
@@ -38,4 +37,4 @@ ghost-self-2 c =
     let f = c .args .family .now in
     let fits = c .in-Continue-shape .ensures tt in
     let totals = c .first-wrong-index .ensures .right (omega (arith, c .if-index-shape .left, ap (entries (c .in-Continue-shape .shape .rows)) (fits .2))) in
-    (fits .0 .low, (rows-model f (family-sound (c .args .family .now)), (fits .0 .long, (∣ subst (λ (n : ℕ). Totals count-kind (rules-of f) n (c .args .table .now)) (fits .2) totals ∣₁, tt))))
+    (fits .0 .low, (fits .0 .long, (∣ subst (λ (n : ℕ). Totals count-kind (rules-of f) n (c .args .table .now)) (fits .2) totals ∣₁, tt)))
