@@ -1,7 +1,7 @@
 // The layout sheet: every layout of a name up to a size, by the rising order.
-use crate::lines::write_choices;
-use crate::lines::write_refusal;
-use crate::lines::write_text;
+use crate::lines::push_choice_line;
+use crate::lines::push_refusal;
+use crate::lines::push_text_line;
 use crate::request::Format;
 use crate::request::Request;
 use crate::request::read_request;
@@ -36,6 +36,8 @@ struct Desk {
     list: Vec<u8>,
     stack: Vec<Pending>,
     page: Vec<u8>,
+    line: Vec<u8>,
+    heap: Global,
 }
 
 impl Desk {
@@ -44,12 +46,14 @@ impl Desk {
             list: Vec::from_elem(heap, 0, PLACES)?,
             stack: Vec::from_elem(heap, Pending::vacant(), PLACES)?,
             page: Vec::from_elem(heap, 0, PAGE)?,
+            line: Vec::new(heap),
+            heap,
         })
     }
 }
 
 // Reads and adopts the family file, and finds the name that is asked for.
-pub fn adopted(heap: Global, request: Request<'_>, family: &mut Family) -> Result<usize, Stop> {
+pub(crate) fn adopted(heap: Global, request: Request<'_>, family: &mut Family) -> Result<usize, Stop> {
     let mut draft = Draft::new(heap)?;
     draft.read(request.file)?;
     family.adopt(draft)?;
@@ -63,14 +67,16 @@ pub fn adopted(heap: Global, request: Request<'_>, family: &mut Family) -> Resul
 fn write_layout<W: Write>(out: &mut W, desk: &mut Desk, opened: &OpenTable<'_, '_>, family: &Family, format: Format, name: usize, size: usize, number: u64) -> Result<(), Stop> {
     let written = draw(opened, &Rising, name, size, number, &mut desk.list, &mut desk.stack)?;
     let choices = &desk.list[0..written];
+    desk.line.clear();
     match format {
-        Format::Choices => write_choices(out, size, number, choices)?,
+        Format::Choices => push_choice_line(&mut desk.line, desk.heap, size as u64, number, choices)?,
         Format::Text => {
             let mut mark = 0;
             print(family, name, choices, &mut desk.stack, &mut desk.page, &mut mark)?;
-            write_text(out, size, number, &desk.page[0..mark])?;
+            push_text_line(&mut desk.line, desk.heap, size as u64, number, &desk.page[0..mark])?;
         }
     }
+    out.write_all(&desk.line)?;
     Ok(())
 }
 
@@ -113,11 +119,18 @@ fn write_sheet<W: Write>(out: &mut W, heap: Global, input: &[u8]) -> Result<(), 
     write_sizes(out, heap, &opened, &family, request.format, name)
 }
 
+// Writes the two lines of a refusal.
+pub(crate) fn write_refusal<W: Write>(out: &mut W, heap: Global, fault: Fault) -> io::Result<()> {
+    let mut lines = Vec::new(heap);
+    push_refusal(&mut lines, heap, fault)?;
+    out.write_all(&lines)
+}
+
 // Prints the layout sheet for an input: a request line and a family file. A refusal is the sheet's last two lines.
 pub fn print_layouts<W: Write>(out: &mut W, heap: Global, input: &[u8]) -> io::Result<()> {
     match write_sheet(out, heap, input) {
         Ok(()) => Ok(()),
-        Err(Stop::Refused(fault)) => write_refusal(out, fault),
+        Err(Stop::Refused(fault)) => write_refusal(out, heap, fault),
         Err(Stop::Failed(error)) => Err(error),
     }
 }

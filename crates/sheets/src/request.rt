@@ -5,18 +5,18 @@ ghost use lib.ListN.{length};
 
 // Which sheet is asked for: the choice sheet or the text sheet.
 #[derive(Clone, Copy)]
-pub enum Format {
+pub(crate) enum Format {
     Choices,
     Text,
 }
 
 // What is asked for, and the family file behind the line.
 #[derive(Clone, Copy)]
-pub struct Request<'a> {
-    pub name: &'a [u8],
-    pub top: usize,
-    pub format: Format,
-    pub file: &'a [u8],
+pub(crate) struct Request<'a> {
+    pub(crate) name: &'a [u8],
+    pub(crate) top: usize,
+    pub(crate) format: Format,
+    pub(crate) file: &'a [u8],
 }
 
 fn is_name_byte(b: u8) -> bool {
@@ -68,7 +68,7 @@ fn format_of(letter: u8) -> Option<Format> {
 }
 
 // Reads the line; none where it has another form.
-pub fn read_request<'a>(input: &'a [u8]) -> Option<Request<'a>> {
+pub(crate) fn read_request<'a>(input: &'a [u8]) -> Option<Request<'a>> {
     let end = name_end(input);
     if end == 0 {
         return None;

@@ -5,12 +5,12 @@ use std::io;
 
 // A refusal, which the sheet prints, or a failure of writing or of memory, which the program reports.
 #[derive(Drop)]
-pub enum Stop {
+pub(crate) enum Stop {
     Refused(Fault),
     Failed(io::Error),
 }
 
-pub impl From<Fault> for Stop as StopFromFault {
+pub(crate) impl From<Fault> for Stop as StopFromFault {
     fn from(fault: Fault) -> Stop {
         match fault {
             Fault::OutOfMemory => Stop::Failed(io::Error::from(io::ErrorKind::OutOfMemory)),
@@ -19,13 +19,13 @@ pub impl From<Fault> for Stop as StopFromFault {
     }
 }
 
-pub impl From<io::Error> for Stop as StopFromIo {
+pub(crate) impl From<io::Error> for Stop as StopFromIo {
     fn from(error: io::Error) -> Stop {
         Stop::Failed(error)
     }
 }
 
-pub impl From<AllocError> for Stop as StopFromAlloc {
+pub(crate) impl From<AllocError> for Stop as StopFromAlloc {
     fn from(_error: AllocError) -> Stop {
         Stop::Failed(io::Error::from(io::ErrorKind::OutOfMemory))
     }

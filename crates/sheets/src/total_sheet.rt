@@ -1,7 +1,7 @@
 // The totals sheet: a name's totals up to a size, counts first and then the cheapest costs.
 use crate::layout_sheet::adopted;
-use crate::lines::write_refusal;
-use crate::lines::write_total;
+use crate::layout_sheet::write_refusal;
+use crate::lines::push_total_line;
 use crate::request::Request;
 use crate::request::read_request;
 use crate::stop::Stop;
@@ -21,14 +21,17 @@ use tables::kind::CountKind;
 use tables::kind::WeightKind;
 
 // The lines of one kind, from a table of that kind.
-fn write_kind<K: WeightKind, W: Write>(out: &mut W, table: &[K], name: &[u8], row: usize, top: usize) -> io::Result<()> {
+fn write_kind<K: WeightKind, W: Write>(out: &mut W, heap: Global, table: &[K], name: &[u8], row: usize, top: usize) -> io::Result<()> {
+    let mut line = Vec::new(heap);
     for size in 0..top.saturating_add(1) {
         let at = row.saturating_mul(top.saturating_add(1)).saturating_add(size);
         let total = match table.get(at) {
             Some(total) => total.show(),
             None => None,
         };
-        write_total(out, K::LETTER, name, size, total)?;
+        line.clear();
+        push_total_line(&mut line, heap, K::LETTER, name, size as u64, total)?;
+        out.write_all(&line)?;
     }
     Ok(())
 }
@@ -44,8 +47,8 @@ fn write_totals<W: Write>(out: &mut W, heap: Global, input: &[u8]) -> Result<(),
     let mut costs = Vec::from_elem(heap, Cheapest { cost: 0 }, 6560)?;
     fill(&family, &mut costs, request.top)?;
     writeln!(out, "kind name size total")?;
-    write_kind(out, &counts, request.name, name, request.top)?;
-    write_kind(out, &costs, request.name, name, request.top)?;
+    write_kind(out, heap, &counts, request.name, name, request.top)?;
+    write_kind(out, heap, &costs, request.name, name, request.top)?;
     Ok(())
 }
 
@@ -53,7 +56,7 @@ fn write_totals<W: Write>(out: &mut W, heap: Global, input: &[u8]) -> Result<(),
 pub fn print_totals<W: Write>(out: &mut W, heap: Global, input: &[u8]) -> io::Result<()> {
     match write_totals(out, heap, input) {
         Ok(()) => Ok(()),
-        Err(Stop::Refused(fault)) => write_refusal(out, fault),
+        Err(Stop::Refused(fault)) => write_refusal(out, heap, fault),
         Err(Stop::Failed(error)) => Err(error),
     }
 }
