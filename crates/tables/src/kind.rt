@@ -90,7 +90,7 @@ pub impl WeightKind for Count as CountKind {
         ensures same { λ r. ⌜ r ≡ count-kind .weigh cost ⌝ }
         ensures means { λ r. ⌜ r .value ≡ 1 ⌝ }
     {
-        Count { value: 1 }
+        Self::one()
     }
 
     fn show(self) -> Option<u64> {

@@ -6,7 +6,7 @@ use Rattle.std.proofs.shelf.Results.{err-from-errBy}
 use Rattle.tables.specs.Counts.{count-kind}
 use Rattle.tables.specs.Tables.{rules-of, entries, Totals}
 use Rattle.tables.specs.Openings.{FirstWrong, no-room, wrong}
-use Rattle.tables.proofs.Stored.{family-sound, rows-model}
+use Rattle.tables.proofs.Stored.{rows-model}
 use Rattle.tables.proofs.open_table.OpenTable.open.Needs as need
 
 pub first-wrong-index-requires : need.first-wrong-index-requires
