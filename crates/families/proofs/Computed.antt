@@ -1,5 +1,5 @@
 -- What is read by the relation is what the definition computes. Assumes nothing.
-use mathlib.Core.Path.{_≡_, refl, sym, ap, _∙_}
+use mathlib.Core.Path.{_≡_, sym, ap, _∙_}
 use mathlib.Core.Bool.{Bool, true, false, cond}
 use mathlib.Core.List.{List}
 use Prim.Native.Nat.{ℕ, zero, suc, _+_, _≤_, _<_}
@@ -7,10 +7,10 @@ use native.Mathlib.Omega.{arith}
 use lib.Dec.{leb}
 use lib.ListN.{length}
 use Rattle.std.specs.Orderings.{When}
-use Rattle.families.specs.Faults.{Answer, granted, refused}
-use Rattle.families.specs.Scans.{Scan, found, scan}
+use Rattle.families.specs.Faults.{Answer, refused}
+use Rattle.families.specs.Scans.{scan}
 use Rattle.families.specs.Grammars.{Lists}
-use Rattle.families.specs.Steps.{Reading, fresh, stepped}
+use Rattle.families.specs.Steps.{Reading, fresh}
 use Rattle.families.specs.Files.{next, Reads, ends, goes, stops, fails, ReadsFile, read-on, read-file}
 
 on : (f : List ℕ) {p : ℕ} {r : Reading} {a : Answer Lists} (n : ℕ) → Reads f p r a → p ≤ length f → length f < p + n → read-on f n r (scan f p) ≡ a

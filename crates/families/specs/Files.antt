@@ -72,14 +72,14 @@ ReadsFile f a = When (leb (length f) 16384) (Reads f 0 fresh a) (a ≡ refused 1
 
 -- The same as a definition that computes
 
--- what was found is read on, having read r, by at most n tokens
+-- having read r, read on from what was found, for at most n tokens
 unfoldable pub read-on : List ℕ → ℕ → Reading → Scan → Answer Lists
 read-on f n r end = closed (r .state) (r .lists) (length f)
 read-on f n r (wrong k i j) = refused k i j
 read-on f zero r (found w q m) = refused 0 q m
 read-on f (suc n) r (found w q m) = next (stepped r w q m) (λ s. read-on f n s (scan f (q + m)))
 
--- the answer to reading a file, which has fewer tokens than bytes and one more
+-- the answer to reading a file: it has no more tokens than bytes, so none is left unread
 unfoldable pub read-file : List ℕ → Answer Lists
 read-file f = cond (leb (length f) 16384) (read-on f (suc (length f)) fresh (scan f 0)) (refused 1 0 0)
 

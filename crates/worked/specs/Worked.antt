@@ -1,10 +1,9 @@
 -- The worked cases. Assumes nothing.
 use mathlib.Core.Path.{_≡_}
-use mathlib.Core.Bool.{Bool, true}
+use mathlib.Core.Bool.{true}
 use mathlib.Core.List.{List, [], _∷_, map}
 use Prim.Native.Nat.{ℕ}
 use lib.Chars.{codes}
-use Rattle.std.specs.declared.option.Option.{Option}
 use Rattle.std.specs.declared.option.Option.the-variants.{Some, None}
 use Rattle.std.specs.declared.result.Result.{Result}
 use Rattle.std.specs.declared.result.Result.the-variants.{Err}
@@ -116,8 +115,9 @@ pub record WorkedCases : Type 0 where
   pub letters-are-read : rules-read letters-file ≡ letters
   -- b has 4 to the power of 31 layouts at size 31
   pub letters-counted : count-shown (total count-kind upward letters 1 31) ≡ Some 4611686018427387904
-  -- at size 32 it has more than the cap
+  -- at size 32 its count is the cap
   pub letters-capped : count-shown (total count-kind upward letters 1 32) ≡ Some 18446744073709551615
-  -- both names of `a = b ; b = ;` can be empty
+  -- the file `a = b ; b = ;` is read to its family
   pub empty-is-read : rules-read empty-file ≡ empties
+  -- both names can be empty there
   pub both-empty : map (nullable-set empties) (below 2) ≡ true ∷ true ∷ []
