@@ -390,7 +390,7 @@ reads-formed : (f : List ℕ) {p : ℕ} {r : Reading} {a : Answer Lists} (l : Li
 reads-formed f l (ends {p} {r} {a} e c) h g =
     let q = closed-formed (r .state) (r .lists) (length f) l (c ∙ h) in
     resolved-formed (r .lists) l (going-whole r g (q .0)) (q .1)
-reads-formed f l (goes {p} {r} {s} {a} w q m e c k) h g = reads-formed f l k h (acted-going (action (r .state) w) (said w) r q m s (fits (r .state) w) g c)
+reads-formed f l (goes {p} {r} {s} {a} w q m e _ _ c k) h g = reads-formed f l k h (acted-going (action (r .state) w) (said w) r q m s (fits (r .state) w) g c)
 reads-formed f l (stops {p} {k} {i} {j} {r} w q m e c) h g = absurd (never k i j l h)
 reads-formed f l (fails {p} {k} {i} {j} {r} e) h g = absurd (never k i j l h)
 

@@ -9,3 +9,4 @@ mod Runs
 mod Forms
 pub mod Facts
 mod Cycles
+mod Computed

@@ -10,7 +10,7 @@ ghost use Rattle.families.specs.declared.fault.Fault.the-variants.{OutOfMemory
 ghost use Rattle.families.specs.Grammars.{Lists, lists-of, no-lists};
 ghost use Rattle.families.specs.Faults.{answer};
 ghost use Rattle.families.specs.Steps.{reading-of, step-answer};
-ghost use Rattle.families.specs.Files.{resolved-item, resolved-alternative, resolved, closed, ReadsFile, lists-answer};
+ghost use Rattle.families.specs.Files.{resolved-item, resolved-alternative, resolved, closed, ReadsFile, read-file, lists-answer};
 use crate::draft::Draft;
 use crate::fault::Fault;
 use crate::grammar::Grammar;
@@ -70,7 +70,10 @@ impl Reader {
     {
         match self.state {
             State::Outside => {}
-            _ => return Err(Fault::Unexpected { place: end, length: 0 }),
+            _ => return Err(Fault::Unexpected {
+                place: end,
+                length: 0,
+            }),
         }
         if self.grammar.rules.len() == 0 {
             return Err(Fault::NoRule { place: end });
@@ -91,7 +94,8 @@ impl Draft {
 
     // Fills the draft anew from a family file; a refusal leaves it as it was.
     pub fn read(&mut self, file: &[u8]) -> Result<(), Fault>
-        ensures answer { λ r. ⌜ ReadsFile (now (file .entry)) (lists-answer r (lists-of (now (self .exit) .grammar))) ⌝ }
+        ensures answer { λ r. ⌜ lists-answer r (lists-of (now (self .exit) .grammar)) ≡ read-file (now (file .entry)) ⌝ }
+        ensures reads { λ r. ⌜ ReadsFile (now (file .entry)) (lists-answer r (lists-of (now (self .exit) .grammar))) ⌝ }
         ensures same { λ r. ⌜ (isErr r ≡ true → lists-of (now (self .exit) .grammar) ≡ lists-of (now (self .entry) .grammar)) ⌝ }
     {
         if file.len() > 16384 {
