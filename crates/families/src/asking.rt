@@ -35,14 +35,6 @@ impl Family {
         self.grammar.labels.len()
     }
 
-    // How many alternatives there are.
-    pub fn alternatives(&self) -> usize
-        ensures value { λ r. ⌜ r ≡ length (vec-items (now (self .entry) .grammar .alternatives)) ⌝ }
-        ensures few { λ r. ⌜ r ≤ 64 ⌝ }
-    {
-        self.grammar.alternatives.len()
-    }
-
     // The number of a name, if the family has it.
     pub fn find(&self, name: &[u8]) -> Option<usize>
         ensures { λ r. ⌜ r ≡ found-name (vec-items (now (self .entry) .grammar .rules)) (now (name .entry)) ⌝ }

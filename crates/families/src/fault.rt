@@ -4,7 +4,7 @@ ghost use Rattle.families.specs.Faults.{fault-number, fault-place, fault-lengt
 
 // Which question was answered no, with what tells the place. `OutOfMemory` is no question:
 // it is given only where something is made.
-#[derive(Clone, Copy, PartialEq, Eq, Debug)]
+#[derive(Clone, Copy)]
 pub enum Fault {
     FileTooLong,
     StrayByte { place: usize },

@@ -2,7 +2,6 @@
 use crate::support::*;
 use families::draft::Draft;
 use families::family::Family;
-use families::fault::FaultDebug;
 use std::test::*;
 
 #[test]
@@ -117,16 +116,16 @@ fn no_empty_cycle_is_adopted(rt: LibcRuntime) -> Result<(), Fail> {
 #[test]
 fn refusals_leave_what_was_there(rt: LibcRuntime) -> Result<(), Fail> {
     let heap = rt.alloc();
-    let mut draft = Draft::new(heap)?;
-    draft.read(b"a = b ; b = ;")?;
+    let mut draft = granted(Draft::new(heap))?;
+    granted(draft.read(b"a = b ; b = ;"))?;
     refused(draft.read(b"c = d ;"), 10, 4, 1)?;
-    let mut family = Family::new(heap)?;
+    let mut family = granted(Family::new(heap))?;
     check_eq(family.names(), 0)?;
-    family.adopt(draft)?;
+    granted(family.adopt(draft))?;
     check_eq(family.names(), 2)?;
     check(family.nullable(0) && family.nullable(1))?;
-    let mut other = Draft::new(heap)?;
-    other.read(b"c = c ;")?;
+    let mut other = granted(Draft::new(heap))?;
+    granted(other.read(b"c = c ;"))?;
     refused(family.adopt(other), 11, 0, 1)?;
     check_eq(family.find(b"b"), Some(1))?;
     check_eq(family.find(b"c"), None)
@@ -135,7 +134,7 @@ fn refusals_leave_what_was_there(rt: LibcRuntime) -> Result<(), Fail> {
 // An unread draft gives a family without names.
 #[test]
 fn an_unread_draft_has_no_names(rt: LibcRuntime) -> Result<(), Fail> {
-    let mut family = Family::new(rt.alloc())?;
-    family.adopt(Draft::new(rt.alloc())?)?;
+    let mut family = granted(Family::new(rt.alloc()))?;
+    granted(family.adopt(granted(Draft::new(rt.alloc()))?))?;
     check_eq(family.names(), 0)
 }

@@ -2,7 +2,6 @@
 use families::draft::Draft;
 use families::family::Family;
 use families::fault::Fault;
-use families::fault::FaultDebug;
 use std::alloc::AllocError;
 use std::alloc::Global;
 use std::test::*;
@@ -16,6 +15,14 @@ pub fn family_of(heap: Global, file: &[u8]) -> Result<Family, Fault> {
     let mut family = Family::new(heap)?;
     family.adopt(draft)?;
     Ok(family)
+}
+
+// What a call answered, where it was not refused.
+pub fn granted<T>(answer: Result<T, Fault>) -> Result<T, Fail> {
+    match answer {
+        Ok(value) => Ok(value),
+        Err(_) => Err(Fail::new("refused")),
+    }
 }
 
 // That a call was refused with this number, place and length.

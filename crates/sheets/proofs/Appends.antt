@@ -27,3 +27,12 @@ dotted-one x = append-nil (decimal x)
 pub dotted-next : (xs : List ℕ) (x : ℕ) → 0 < length xs → dotted (xs ++ (x ∷ [])) ≡ dotted xs ++ (46 ∷ decimal x)
 dotted-next [] x h = absurd (omega arith)
 dotted-next (y ∷ ys) x h = dotted-more y ys x
+
+-- the next number behind what stands there: with a dot, or as the first
+pub push-next : (a t u v : List ℕ) (x : ℕ) → 0 < length t → u ≡ (a ++ dotted t) ++ (46 ∷ []) → v ≡ u ++ decimal x → v ≡ a ++ dotted (t ++ (x ∷ []))
+push-next a t u v x h p q =
+    q ∙ ap (λ l. l ++ decimal x) p ∙ append-assoc (a ++ dotted t) (46 ∷ []) (decimal x) ∙ append-assoc a (dotted t) (46 ∷ decimal x) ∙ ap (λ l. a ++ l) (sym (dotted-next t x h))
+
+pub push-first : (a t u v : List ℕ) (x : ℕ) → t ≡ [] → u ≡ a ++ dotted t → v ≡ u ++ decimal x → v ≡ a ++ dotted (t ++ (x ∷ []))
+push-first a t u v x e p q =
+    q ∙ ap (λ l. l ++ decimal x) (p ∙ ap (λ l. a ++ dotted l) e ∙ append-nil a) ∙ ap (λ l. a ++ l) (sym (dotted-one x)) ∙ ap (λ l. a ++ dotted (l ++ (x ∷ []))) (sym e)
