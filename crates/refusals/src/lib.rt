@@ -7,3 +7,5 @@ mod reading;
 mod tables_and_drawing;
 #[cfg(test)]
 mod printed;
+#[cfg(test)]
+mod sequences;

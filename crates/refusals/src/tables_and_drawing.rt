@@ -60,6 +60,21 @@ fn damaged_tables_stay_shut(rt: LibcRuntime) -> Result<(), Fail> {
     stays_open(heap, &family, &good, &bad)
 }
 
+// An item's entry is damaged, and the entries of names above it are changed to match: the lower index is answered,
+// since entries are compared with their true totals.
+#[test]
+fn matching_damage_is_found_at_the_name(rt: LibcRuntime) -> Result<(), Fail> {
+    let heap = rt.alloc();
+    let family = granted(family_of(heap, b"a = \"p\" | \"q\" ;"))?;
+    let mut table = counts(heap, 6)?;
+    granted(fill(&family, &mut table, 1))?;
+    check(table.len() == 6 && table[1].value == 2 && table[3].value == 1)?;
+    table[3] = Count { value: 4 };
+    table[1] = Count { value: 5 };
+    let mut opened = OpenTable::new(granted(Scratch::new(heap))?);
+    refused(opened.open(&family, &table, 1), 14, 1, 1)
+}
+
 fn stays_open(heap: Global, family: &Family, good: &[Count], bad: &[Count]) -> Result<(), Fail> {
     let mut opened = OpenTable::new(granted(Scratch::new(heap))?);
     granted(opened.open(family, good, 4))?;
@@ -126,7 +141,7 @@ fn draws_are_refused_in_order(rt: LibcRuntime) -> Result<(), Fail> {
 #[test]
 fn capped_totals_are_not_drawn(rt: LibcRuntime) -> Result<(), Fail> {
     let heap = rt.alloc();
-    let family = family_of(heap, b"a = b b b b b b ; b = c c ; c = d d d ; d = e | e | e | e ; e = ;")?;
+    let family = granted(family_of(heap, b"a = b b b b b b ; b = c c ; c = d d d ; d = e | e | e | e ; e = ;"))?;
     let mut table = counts(heap, 40)?;
     granted(fill(&family, &mut table, 0))?;
     let mut opened = OpenTable::new(granted(Scratch::new(heap))?);

@@ -3,3 +3,4 @@ pub mod Costs
 pub mod Tables
 pub mod Fillings
 pub mod Openings
+pub mod Meanings

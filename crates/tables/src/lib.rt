@@ -7,3 +7,4 @@ pub mod open_table;
 pub mod opening;
 pub mod scratch;
 pub mod shape;
+pub mod meanings;
