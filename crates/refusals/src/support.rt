@@ -7,9 +7,9 @@ use std::alloc::Global;
 use std::test::*;
 
 // The worked family.
-pub const WORKED: &[u8; 78] = b"line = track | track line ;\ntrack = \"plain\" | \"point\":2@5 ;\ntwo = line line ;\n";
+pub(crate) const WORKED: &[u8; 78] = b"line = track | track line ;\ntrack = \"plain\" | \"point\":2@5 ;\ntwo = line line ;\n";
 
-pub fn family_of(heap: Global, file: &[u8]) -> Result<Family, Fault> {
+pub(crate) fn family_of(heap: Global, file: &[u8]) -> Result<Family, Fault> {
     let mut draft = Draft::new(heap)?;
     draft.read(file)?;
     let mut family = Family::new(heap)?;
@@ -18,7 +18,7 @@ pub fn family_of(heap: Global, file: &[u8]) -> Result<Family, Fault> {
 }
 
 // What a call answered, where it was not refused.
-pub fn granted<T>(answer: Result<T, Fault>) -> Result<T, Fail> {
+pub(crate) fn granted<T>(answer: Result<T, Fault>) -> Result<T, Fail> {
     match answer {
         Ok(value) => Ok(value),
         Err(_) => Err(Fail::new("refused")),
@@ -26,7 +26,7 @@ pub fn granted<T>(answer: Result<T, Fault>) -> Result<T, Fail> {
 }
 
 // That a call was refused with this number, place and length.
-pub fn refused<T: Drop>(answer: Result<T, Fault>, number: u8, place: usize, length: usize) -> Result<(), Fail> {
+pub(crate) fn refused<T: Drop>(answer: Result<T, Fault>, number: u8, place: usize, length: usize) -> Result<(), Fail> {
     let Err(fault) = answer else {
         return Err(Fail::new("not refused"));
     };
@@ -36,17 +36,17 @@ pub fn refused<T: Drop>(answer: Result<T, Fault>, number: u8, place: usize, leng
 }
 
 // That reading and adopting a file is refused so.
-pub fn file_refused(heap: Global, file: &[u8], number: u8, place: usize, length: usize) -> Result<(), Fail> {
+pub(crate) fn file_refused(heap: Global, file: &[u8], number: u8, place: usize, length: usize) -> Result<(), Fail> {
     refused(family_of(heap, file), number, place, length)
 }
 
 // That a file is adopted.
-pub fn file_adopted(heap: Global, file: &[u8]) -> Result<(), Fail> {
+pub(crate) fn file_adopted(heap: Global, file: &[u8]) -> Result<(), Fail> {
     check(family_of(heap, file).is_ok())
 }
 
 // `piece` `times` times between a head and a tail.
-pub fn repeated(heap: Global, head: &[u8], piece: &[u8], times: usize, tail: &[u8]) -> Result<Vec<u8>, AllocError> {
+pub(crate) fn repeated(heap: Global, head: &[u8], piece: &[u8], times: usize, tail: &[u8]) -> Result<Vec<u8>, AllocError> {
     let mut text = Vec::from_slice(heap, head)?;
     for _ in 0..times {
         text.extend_from_slice(piece)?;
@@ -56,7 +56,7 @@ pub fn repeated(heap: Global, head: &[u8], piece: &[u8], times: usize, tail: &[u
 }
 
 // `count` rules with names of two letters and one empty alternative each, four bytes a rule.
-pub fn many_rules(heap: Global, count: u8) -> Result<Vec<u8>, AllocError> {
+pub(crate) fn many_rules(heap: Global, count: u8) -> Result<Vec<u8>, AllocError> {
     let mut text = Vec::new(heap);
     for i in 0..count {
         text.extend_from_slice(&[b'a' + i / 26, b'a' + i % 26, b'=', b';'])?;
