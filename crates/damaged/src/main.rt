@@ -6,6 +6,8 @@
 // each name whether it can be empty, 1 or 0 (0 0 - where the file is refused).
 //
 // `stdout` is made by another program, from the documents alone: tools/expect_damage.py.
+#![tactic(auto)]
+
 ghost use Rattle.std.specs.Prelude.{◌≤◌, length};
 
 mod damage;

@@ -1,4 +1,6 @@
 // Split orders, drawing by number, and printing.
+#![tactic(auto)]
+
 pub mod choosing;
 pub mod counting;
 pub mod drawing;

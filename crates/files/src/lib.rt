@@ -1,4 +1,6 @@
 // Family files: the refusals, the tokens, the reader of rules and files, drafts.
+#![tactic(auto)]
+
 pub mod draft;
 pub mod fault;
 pub mod grammar;

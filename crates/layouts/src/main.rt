@@ -1,4 +1,6 @@
 // Reads a request line and a family file, and prints the layouts sheet.
+#![tactic(auto)]
+
 use sheets::layout_sheet::print_layouts;
 use std::io;
 use std::io::{BufWriter, Read, Write};

@@ -1,4 +1,6 @@
 // One case or more of each refusal, and what the calls leave behind.
+#![tactic(auto)]
+
 #[cfg(test)]
 mod printed;
 #[cfg(test)]

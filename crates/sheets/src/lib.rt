@@ -1,4 +1,6 @@
 // The request line and the sheets: all text that the programs print.
+#![tactic(auto)]
+
 pub mod layout_sheet;
 pub mod lines;
 pub mod request;

@@ -1,4 +1,6 @@
 // Weight kinds, tables of totals and open tables.
+#![tactic(auto)]
+
 pub mod cheapest;
 pub mod count;
 pub mod filling;

@@ -1,5 +1,7 @@
 // The definitions of layouts, totals and numbers over abstract families, and the theorems about them.
 // The definitions stand in specs/. Each function here answers 0; its contract is a theorem.
+#![tactic(auto)]
+
 ghost use Rattle.theory.specs.Kinds.{Kind, Laws};
 ghost use Rattle.theory.specs.Orders.{RisingLawful, ToAndFroLawful, SplitsLawful};
 ghost use Rattle.theory.specs.Families.{ItemsAreNumbered};

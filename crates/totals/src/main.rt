@@ -1,4 +1,6 @@
 // Reads a request line and a family file, and prints the totals sheet.
+#![tactic(auto)]
+
 use sheets::total_sheet::print_totals;
 use std::io;
 use std::io::{BufWriter, Read, Write};

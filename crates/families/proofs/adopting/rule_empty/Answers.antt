@@ -9,14 +9,14 @@ use Rattle.files.proofs.Places.{count_is, low, stored}
 use Rattle.families.proofs.Decided.{any_none, empty_decided}
 use Rattle.families.proofs.adopting.rule_empty.Goals as goal
 
-pub returns-then-others-empty : goal.returns-then-others-empty
-returns-then-others-empty c =
+pub returns-then-others_empty : goal.returns-then-others_empty
+returns-then-others_empty c =
     let l = lists_of c.args.grammar.now in
     let nul = marked c.args.nullable.now in
     let few = low l c.requires c.args.y c.loop-a.a _ c.rule-rule.ensures c.loop-a-test.true in
     let t = stored l c.requires c.args.y c.loop-a.a _ _ c.alternative.result c.rule-rule.ensures c.loop-a-test.true (omega arith) c.alternative.ensures in
-    let e = empty_decided nul l.labels c.alternative.result t.0 _ c.others-empty.ensures in
-    sym (any_at (all_empty nul) (alternatives (model l) c.args.y) [] c.loop-a.a t.1 (ap (all_empty nul) t.2 ∙ sym e ∙ c.if-others-empty.true))
+    let e = empty_decided nul l.labels c.alternative.result t.0 _ c.others_empty.ensures in
+    sym (any_at (all_empty nul) (alternatives (model l) c.args.y) [] c.loop-a.a t.1 (ap (all_empty nul) t.2 ∙ sym e ∙ c.if-others_empty.true))
 
 pub loop-a-preserved : goal.loop-a-preserved
 loop-a-preserved c =
@@ -24,8 +24,8 @@ loop-a-preserved c =
     let nul = marked c.args.nullable.now in
     let few = low l c.requires c.args.y c.loop-a.a _ c.rule-rule.ensures c.loop-a-test.true in
     let t = stored l c.requires c.args.y c.loop-a.a _ _ c.alternative.result c.rule-rule.ensures c.loop-a-test.true (omega arith) c.alternative.ensures in
-    let e = empty_decided nul l.labels c.alternative.result t.0 _ c.others-empty.ensures in
-    below_more _ _ c.loop-a.invariant (ap (all_empty nul) t.2 ∙ sym e ∙ c.if-others-empty.false)
+    let e = empty_decided nul l.labels c.alternative.result t.0 _ c.others_empty.ensures in
+    below_more _ _ c.loop-a.invariant (ap (all_empty nul) t.2 ∙ sym e ∙ c.if-others_empty.false)
 
 pub returns : goal.returns
 returns c =

@@ -9,14 +9,14 @@ use Rattle.files.proofs.Places.{count_is, low, stored}
 use Rattle.families.proofs.Decided.{any_none, leads_decided}
 use Rattle.families.proofs.adopting.rule_leads.Goals as goal
 
-pub returns-then-alternative-leads : goal.returns-then-alternative-leads
-returns-then-alternative-leads c =
+pub returns-then-alternative_leads : goal.returns-then-alternative_leads
+returns-then-alternative_leads c =
     let l = lists_of c.args.grammar.now in
     let nul = marked c.args.nullable.now in
     let few = low l c.requires c.args.from c.loop-a.a _ c.rule-rule.ensures c.loop-a-test.true in
     let t = stored l c.requires c.args.from c.loop-a.a _ _ c.alternative.result c.rule-rule.ensures c.loop-a-test.true (omega arith) c.alternative.ensures in
-    let e = leads_decided nul l.labels c.alternative.result t.0 c.args.to _ c.alternative-leads.ensures in
-    sym (any_at (leads_in nul c.args.to) (alternatives (model l) c.args.from) [] c.loop-a.a t.1 (ap (leads_in nul c.args.to) t.2 ∙ sym e ∙ c.if-alternative-leads.true))
+    let e = leads_decided nul l.labels c.alternative.result t.0 c.args.to _ c.alternative_leads.ensures in
+    sym (any_at (leads_in nul c.args.to) (alternatives (model l) c.args.from) [] c.loop-a.a t.1 (ap (leads_in nul c.args.to) t.2 ∙ sym e ∙ c.if-alternative_leads.true))
 
 pub loop-a-preserved : goal.loop-a-preserved
 loop-a-preserved c =
@@ -24,8 +24,8 @@ loop-a-preserved c =
     let nul = marked c.args.nullable.now in
     let few = low l c.requires c.args.from c.loop-a.a _ c.rule-rule.ensures c.loop-a-test.true in
     let t = stored l c.requires c.args.from c.loop-a.a _ _ c.alternative.result c.rule-rule.ensures c.loop-a-test.true (omega arith) c.alternative.ensures in
-    let e = leads_decided nul l.labels c.alternative.result t.0 c.args.to _ c.alternative-leads.ensures in
-    below_more _ _ c.loop-a.invariant (ap (leads_in nul c.args.to) t.2 ∙ sym e ∙ c.if-alternative-leads.false)
+    let e = leads_decided nul l.labels c.alternative.result t.0 c.args.to _ c.alternative_leads.ensures in
+    below_more _ _ c.loop-a.invariant (ap (leads_in nul c.args.to) t.2 ∙ sym e ∙ c.if-alternative_leads.false)
 
 pub returns : goal.returns
 returns c =

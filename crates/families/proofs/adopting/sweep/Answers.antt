@@ -14,10 +14,10 @@ loop-y-init c = unmarked _ _ c.told-nullable
 pub loop-y-preserved : goal.loop-y-preserved
 loop-y-preserved c =
     elim c.if-not-nullable-y.branch [
-      | then-not-nullable-y+then-rule-empty w ↦ mark_more _ _ _ _ _ c.loop-y.invariant _ _ (omega (arith, c.requires.few_rules)) w.if-not-nullable-y.true (sym w.if-rule-empty.ensures) w.nullable-is w.found-is
+      | then-not-nullable-y+then-rule-empty w ↦ mark_more _ _ _ _ _ c.loop-y.invariant _ _ (omega (arith, c.requires.few_rules)) w.if-not-nullable-y.true (sym w.if-rule_empty.ensures) w.nullable-is w.found-is
       | else-not-nullable-y w ↦
           elim w.else-not-nullable-y.branch [
-            | else-not-nullable-y-via-then-not-nullable-y+else-rule-empty v ↦ mark_same _ _ _ _ _ c.loop-y.invariant _ _ (λ e. absurd (both_ways _ (sym v.if-rule-empty.ensures) e)) w.nullable-is w.found-is
+            | else-not-nullable-y-via-then-not-nullable-y+else-rule-empty v ↦ mark_same _ _ _ _ _ c.loop-y.invariant _ _ (λ e. absurd (both_ways _ (sym v.if-rule_empty.ensures) e)) w.nullable-is w.found-is
             | else-not-nullable-y-via-else-not-nullable-y v ↦ mark_same _ _ _ _ _ c.loop-y.invariant _ _ (λ e. v.if-not-nullable-y.false) w.nullable-is w.found-is
           ]
     ]

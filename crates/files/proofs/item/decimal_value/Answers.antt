@@ -4,11 +4,11 @@ use Rattle.files.specs.Items.{decimal}
 use Rattle.files.proofs.Digits.{most, few}
 use Rattle.files.proofs.item.decimal_value.Goals as goal
 
-pub overflow-mul-value : goal.overflow-mul-value
-overflow-mul-value c = omega (arith, few c.loop-b.b-index (omega arith))
+pub overflow_mul-value : goal.overflow_mul-value
+overflow_mul-value c = omega (arith, few c.loop-b.b-index (omega arith))
 
-pub overflow-add-value : goal.overflow-add-value
-overflow-add-value c = omega (arith, few c.loop-b.b-index (omega arith))
+pub overflow_add-value : goal.overflow_add-value
+overflow_add-value c = omega (arith, few c.loop-b.b-index (omega arith))
 
 pub loop-b-preserved : goal.loop-b-preserved
 loop-b-preserved c =

@@ -3,7 +3,7 @@ use Rattle.std.proofs.lemmas.List.{take_more}
 use Rattle.sheets.specs.Lines.{dotted}
 use Rattle.sheets.proofs.Appends.{push_next, push_first}
 use Rattle.sheets.proofs.lines.push_choices.Goals as goal
-use Rattle.sheets.proofs.lines.push_choices.Goals.{then-i-gt0+in-ok-push, else-i-gt0}
+use Rattle.sheets.proofs.lines.push_choices.Goals.{then-i-gt0+in_ok-push, else-i-gt0}
 
 pub loop-i-preserved : goal.loop-i-preserved
 loop-i-preserved c =
@@ -12,10 +12,10 @@ loop-i-preserved c =
     let i = c.loop-i.i in
     let x : ℕ = get_or xs i 0 in
     let num : decimal c.from.result ≡ decimal x = ap decimal c.from.ensures in
-    let put = c.in-ok-push-number.ensures ∙ ap (λ l. vec_items c.if-i-gt0.line ++ l) num in
-    let next : vec_items c.push-number.new.line ≡ a ++ dotted (take i xs ++ (x ∷ [])) =
+    let put = c.in_ok-push_number.ensures ∙ ap (λ l. vec_items c.if-i-gt0.line ++ l) num in
+    let next : vec_items c.push_number.new.line ≡ a ++ dotted (take i xs ++ (x ∷ [])) =
     elim c.if-i-gt0.branch [
-      | then-i-gt0+in-ok-push w ↦ push_next a (take i xs) _ _ x (omega (arith, length-take-le i xs (omega arith))) (ap vec_items w.line-is ∙ w.in-ok-push.ensures.items ∙ ap (λ l. l ++ (46 ∷ [])) c.loop-i.invariant) put
+      | then-i-gt0+in_ok-push w ↦ push_next a (take i xs) _ _ x (omega (arith, length-take-le i xs (omega arith))) (ap vec_items w.line-is ∙ w.in_ok-push.ensures.items ∙ ap (λ l. l ++ (46 ∷ [])) c.loop-i.invariant) put
       | else-i-gt0 w ↦ push_first a (take i xs) _ _ x (let z : i ≡ 0 = omega arith in ap (λ n. take n xs) z) (ap vec_items w.line-is ∙ c.loop-i.invariant) put
     ] in
     next ∙ ap (λ l. a ++ dotted l) (sym (take_more xs i 0 (omega arith)))

@@ -11,10 +11,10 @@ returns c =
     let n : List ℕ = decimal (fault_length f) ++ e in
     let v : List ℕ = values (fault_number f) (fault_place f) in
     let number = c.from.ensures ∙ c.number.ensures in
-    let both : vec_items c.push-values.new.line ≡ vec_items c.extend-from-slice.new.self ++ v =
-    c.in-ok-push-values.ensures ∙ λ j. vec_items c.extend-from-slice.new.self ++ values (number j) (c.place.ensures j) in
-    let last : vec_items c.push-number.new.line ≡ vec_items c.push-values.new.line ++ decimal (fault_length f) =
-    c.in-ok-push-number.ensures ∙ ap (λ k. vec_items c.push-values.new.line ++ decimal k) c.length.ensures in
-    behind (vec_items c.args.line.now) (codes "refused place length" ++ (10 ∷ [])) (v ++ n) c.in-ok-extend-from-slice.ensures.items
-    (behind (vec_items c.extend-from-slice.new.self) v n both
-    (behind (vec_items c.push-values.new.line) (decimal (fault_length f)) e last c.in-ok-push.ensures.items))
+    let both : vec_items c.push_values.new.line ≡ vec_items c.extend_from_slice.new.self ++ v =
+    c.in_ok-push_values.ensures ∙ λ j. vec_items c.extend_from_slice.new.self ++ values (number j) (c.place.ensures j) in
+    let last : vec_items c.push_number.new.line ≡ vec_items c.push_values.new.line ++ decimal (fault_length f) =
+    c.in_ok-push_number.ensures ∙ ap (λ k. vec_items c.push_values.new.line ++ decimal k) c.length.ensures in
+    behind (vec_items c.args.line.now) (codes "refused place length" ++ (10 ∷ [])) (v ++ n) c.in_ok-extend_from_slice.ensures.items
+    (behind (vec_items c.extend_from_slice.new.self) v n both
+    (behind (vec_items c.push_values.new.line) (decimal (fault_length f)) e last c.in_ok-push.ensures.items))

@@ -5,5 +5,5 @@ use Rattle.sheets.proofs.lines.push_text_line.Goals as goal
 
 pub returns : goal.returns
 returns c =
-    behind (vec_items c.args.line.now) (values c.args.size c.args.number) (c.args.text.now ++ (10 ∷ [])) c.in-ok-push-values.ensures
-    (behind (vec_items c.push-values.new.line) c.args.text.now (10 ∷ []) c.in-ok-extend-from-slice.ensures.items c.in-ok-push.ensures.items)
+    behind (vec_items c.args.line.now) (values c.args.size c.args.number) (c.args.text.now ++ (10 ∷ [])) c.in_ok-push_values.ensures
+    (behind (vec_items c.push_values.new.line) c.args.text.now (10 ∷ []) c.in_ok-extend_from_slice.ensures.items c.in_ok-push.ensures.items)

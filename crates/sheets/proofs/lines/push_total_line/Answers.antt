@@ -8,10 +8,10 @@ returns c =
     let e : List ℕ = 10 ∷ [] in
     let d : List ℕ = shown_text c.args.total ++ e in
     let s : List ℕ = decimal c.args.size ++ (32 ∷ d) in
-    behind (vec_items c.args.line.now) (c.args.letter ∷ []) (32 ∷ (c.args.name.now ++ (32 ∷ s))) c.in-ok-push.ensures.items
-    (behind (vec_items c.push.new.self) (32 ∷ []) (c.args.name.now ++ (32 ∷ s)) c.in-ok-push-2.ensures.items
-    (behind (vec_items c.push-2.new.self) c.args.name.now (32 ∷ s) c.in-ok-extend-from-slice.ensures.items
-    (behind (vec_items c.extend-from-slice.new.self) (32 ∷ []) s c.in-ok-push-3.ensures.items
-    (behind (vec_items c.push-3.new.self) (decimal c.args.size) (32 ∷ d) c.in-ok-push-number.ensures
-    (behind (vec_items c.push-number.new.line) (32 ∷ []) d c.in-ok-push-4.ensures.items
-    (behind (vec_items c.push-4.new.self) (shown_text c.args.total) e c.in-ok-push-shown.ensures c.in-ok-push-5.ensures.items))))))
+    behind (vec_items c.args.line.now) (c.args.letter ∷ []) (32 ∷ (c.args.name.now ++ (32 ∷ s))) c.in_ok-push.ensures.items
+    (behind (vec_items c.push.new.self) (32 ∷ []) (c.args.name.now ++ (32 ∷ s)) c.in_ok-push-2.ensures.items
+    (behind (vec_items c.push-2.new.self) c.args.name.now (32 ∷ s) c.in_ok-extend_from_slice.ensures.items
+    (behind (vec_items c.extend_from_slice.new.self) (32 ∷ []) s c.in_ok-push-3.ensures.items
+    (behind (vec_items c.push-3.new.self) (decimal c.args.size) (32 ∷ d) c.in_ok-push_number.ensures
+    (behind (vec_items c.push_number.new.line) (32 ∷ []) d c.in_ok-push-4.ensures.items
+    (behind (vec_items c.push-4.new.self) (shown_text c.args.total) e c.in_ok-push_shown.ensures c.in_ok-push-5.ensures.items))))))

@@ -6,9 +6,9 @@ use Rattle.tables.proofs.Stored.{rows-model}
 use Rattle.tables.proofs.Sizes.{ready_all}
 use Rattle.tables.proofs.filling.fill.Goals as goal
 
-pub fill-all-requires : goal.fill-all-requires
-fill-all-requires g c =
-    let fits = c.in-ok-shape.ensures in
+pub fill_all-requires : goal.fill_all-requires
+fill_all-requires g c =
+    let fits = c.in_ok-shape.ensures in
     record {
       prepared = record {
         rows_all = fits.1 ∙ rows-model c.args.family.now;
@@ -19,13 +19,13 @@ fill-all-requires g c =
 pub returns : goal.returns
 returns g c =
     let o = g.K.WeightKind.kind in
-    let fits = c.in-ok-shape.ensures in
+    let fits = c.in_ok-shape.ensures in
     let f = c.args.family.now in
-    let u = c.fill-all.new.table in
-    let s = c.in-ok-shape.shape in
+    let u = c.fill_all.new.table in
+    let s = c.in_ok-shape.shape in
     record {
       room = fits.0;
-      totals = subst (λ (n : ℕ). Totals o (rules_of f) n u) fits.2 (ready_all o g.met.K.WeightKind.laws (rules_of f) (marked f.nullable) (keeps c.args.family.now).adopted s.top u (s.top + 1) (λ z. ⊥) (omega arith) c.fill-all.ensures.ready);
-      beyond = λ i d h. c.fill-all.ensures.beyond i d (omega (arith, ap₂ entries fits.1 fits.2));
+      totals = subst (λ (n : ℕ). Totals o (rules_of f) n u) fits.2 (ready_all o g.met.K.WeightKind.laws (rules_of f) (marked f.nullable) (keeps c.args.family.now).adopted s.top u (s.top + 1) (λ z. ⊥) (omega arith) c.fill_all.ensures.ready);
+      beyond = λ i d h. c.fill_all.ensures.beyond i d (omega (arith, ap₂ entries fits.1 fits.2));
       length_same = omega arith;
     }

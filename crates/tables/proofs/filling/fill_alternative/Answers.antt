@@ -18,8 +18,8 @@ loop-slot-init g c =
     wrote_none g.K.WeightKind.kind g.met.K.WeightKind.laws (rules_of c.args.family.now) (keeps c.args.family.now).adopted.defined c.args.shape.top c.args.n c.requires.size
     (From (c.args.alternative.first + c.args.alternative.count) (c.args.alternative.first + c.args.alternative.count)) c.args.table.now (λ j x. omega (arith, x.0, x.1))
 
-pub tail-total-total-requires : goal.tail-total-total-requires
-tail-total-total-requires g c =
+pub tail_total-total-requires : goal.tail_total-total-requires
+tail_total-total-requires g c =
     let F = rules_of c.args.family.now in
     let a = c.args.alternative in
     let p : ℕ = c.loop-slot.slot - 1 + 1 in
@@ -37,8 +37,8 @@ tail-total-total-requires g c =
           (cases_eq k c.args.n);
     }
 
-pub item-row-requires : goal.item-row-requires
-item-row-requires g c =
+pub item_row-requires : goal.item_row-requires
+item_row-requires g c =
     omega (arith, c.requires.stands.inside (c.loop-slot.slot - 1) (omega arith), c.requires.prepared.rows_all, c.args.shape.few, c.names-names.ensures.value, length-model (lists_of c.args.family.now.grammar))
 
 pub put-requires : goal.put-requires
@@ -56,9 +56,9 @@ loop-slot-preserved g c =
     let defined = (keeps c.args.family.now).adopted.defined in
     let a = c.args.alternative in
     let slot : ℕ = c.loop-slot.slot - 1 in
-    let one = put_wrote_at o laws F defined c.args.shape.top c.args.n c.requires.size c.loop-slot.table c.put.new.table (a.first + slot) c.item_row.result c.tail-total-total.result
+    let one = put_wrote_at o laws F defined c.args.shape.top c.args.n c.requires.size c.loop-slot.table c.put.new.table (a.first + slot) c.item_row.result c.tail_total-total.result
     (c.requires.stands.inside slot (omega arith)) (prepared_room c.args.family.now c.args.shape _ (prepared_again _ _ _ _ c.requires.prepared c.loop-slot.auto.table))
-    c.tail-total-total.ensures (c.item_row.ensures ∙ ap (λ m. m + (a.first + slot)) (c.names-names.ensures.value ∙ sym (length-model (lists_of c.args.family.now.grammar)))) c.put.ensures in
+    c.tail_total-total.ensures (c.item_row.ensures ∙ ap (λ m. m + (a.first + slot)) (c.names-names.ensures.value ∙ sym (length-model (lists_of c.args.family.now.grammar)))) c.put.ensures in
     wrote_then o laws F defined c.args.shape.top c.args.n c.requires.size
     (From (a.first + c.loop-slot.slot) (a.first + a.count)) (λ j. j ≡ a.first + slot) (From (a.first + slot) (a.first + a.count)) c.args.table.now c.loop-slot.table c.put.new.table
     (λ j x. ⊎_elim (λ (e : j ≡ a.first + slot). inr e) (λ (e : j ≡ a.first + slot → ⊥). inl (omega (arith, x.0), x.1)) (cases_eq j (a.first + slot)))

@@ -18,8 +18,8 @@ loop-y-init g c =
     wrote_none g.K.WeightKind.kind g.met.K.WeightKind.laws (rules_of f) (keeps f).adopted.defined c.args.shape.top c.args.n c.requires.size
     (Before (lists_of f.grammar) 0) c.args.table.now (λ j x. omega (arith, x.1))
 
-pub fill-alternatives-requires : goal.fill-alternatives-requires
-fill-alternatives-requires g c =
+pub fill_alternatives-requires : goal.fill_alternatives-requires
+fill_alternatives-requires g c =
     let f = c.args.family.now in
     record {
       prepared = prepared_again _ _ _ _ c.requires.prepared c.loop-y.auto.table;
@@ -35,13 +35,13 @@ loop-y-preserved g c =
     let l = lists_of f.grammar in
     let y = c.loop-y.y in
     wrote_then g.K.WeightKind.kind g.met.K.WeightKind.laws (rules_of f) (keeps f).adopted.defined c.args.shape.top c.args.n c.requires.size
-    (Before l y) (Under l y) (Before l (y + 1)) c.args.table.now c.loop-y.table c.fill-alternatives.new.table
+    (Before l y) (Under l y) (Before l (y + 1)) c.args.table.now c.loop-y.table c.fill_alternatives.new.table
     (λ j x.
     ⊎_elim
     (λ (e : x.0 ≡ y). inr (subst (λ (z : ℕ). Under l z j) e x.2))
     (λ (e : x.0 ≡ y → ⊥). inl (x.0, omega (arith, x.1), x.2))
     (cases_eq x.0 y))
-    c.loop-y.invariant c.fill-alternatives.ensures
+    c.loop-y.invariant c.fill_alternatives.ensures
 
 pub returns : goal.returns
 returns g c =

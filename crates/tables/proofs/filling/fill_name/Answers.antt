@@ -9,8 +9,8 @@ use Rattle.tables.proofs.Views.{changed_rows}
 use Rattle.tables.proofs.Sizes.{ready_right, name_done, name_bare}
 use Rattle.tables.proofs.filling.fill_name.Goals as goal
 
-pub fill-alternatives-requires : goal.fill-alternatives-requires
-fill-alternatives-requires g c =
+pub fill_alternatives-requires : goal.fill_alternatives-requires
+fill_alternatives-requires g c =
     let f = c.args.family.now in
     record {
       prepared = c.requires.prepared;
@@ -20,12 +20,12 @@ fill-alternatives-requires g c =
           (λ z. get_or f.ranks z 0 < get_or f.ranks c.args.y 0) c.args.table.now c.requires.ready;
     }
 
-pub name-total-total-requires : goal.name-total-total-requires
-name-total-total-requires g c = record {
+pub name_total-total-requires : goal.name_total-total-requires
+name_total-total-requires g c = record {
   prepared = prepared_again _ _ _ _ c.requires.prepared (omega arith);
   there = c.requires.there;
   size = c.requires.size;
-  right = λ j h x. c.fill-alternatives.ensures.new j h x;
+  right = λ j h x. c.fill_alternatives.ensures.new j h x;
 }
 
 pub put-requires : goal.put-requires
@@ -54,8 +54,8 @@ returns g c =
     let sound = keeps c.args.family.now in
     let done = name_done o g.met.K.WeightKind.laws (rules_of f) (marked f.nullable) sound.adopted c.args.shape.top c.args.n c.requires.size
     (λ z. get_or f.ranks z 0 < get_or f.ranks c.args.y 0) (Under l c.args.y)
-    c.args.table.now c.fill-alternatives.new.table c.put.new.table c.args.y c.name-total-total.result c.requires.ready c.fill-alternatives.ensures c.requires.there
-    (ranks_of f) (λ z h e. e) c.name-total-total.ensures (prepared_room f c.args.shape _ (prepared_again _ _ _ _ c.requires.prepared (omega arith))) c.put.ensures in
+    c.args.table.now c.fill_alternatives.new.table c.put.new.table c.args.y c.name_total-total.result c.requires.ready c.fill_alternatives.ensures c.requires.there
+    (ranks_of f) (λ z h e. e) c.name_total-total.ensures (prepared_room f c.args.shape _ (prepared_again _ _ _ _ c.requires.prepared (omega arith))) c.put.ensures in
     record {
       total = done.value;
       changed = changed_rows o c.args.shape.top _ c.args.shape.rows c.args.n _ _ _ (sym c.requires.prepared.rows_all) done.only;

@@ -23,8 +23,8 @@ loop-y-init g c =
       λ i d h. refl,
     )
 
-pub fill-name-requires : goal.fill-name-requires
-fill-name-requires g c =
+pub fill_name-requires : goal.fill_name-requires
+fill_name-requires g c =
     let f = c.args.family.now in
     record {
       prepared = prepared_again _ _ _ _ c.requires.prepared c.loop-y.auto.table;
@@ -48,9 +48,9 @@ loop-y-preserved g c =
       | then-rank w ↦ (
         subst (λ (u : List _). Ready o F nul s.top c.args.n (Done f.ranks c.args.rank (y + 1)) u) (sym w.table-is)
             (ready_more o g.met.K.WeightKind.laws F nul adopted s.top c.args.n c.requires.size (Done f.ranks c.args.rank y) c.loop-y.table c.loop-y.invariant.0 s.rows y
-            (Done f.ranks c.args.rank (y + 1)) w.fill-name.new.table w.fill-name.ensures.changed w.fill-name.ensures.total
+            (Done f.ranks c.args.rank (y + 1)) w.fill_name.new.table w.fill_name.ensures.changed w.fill_name.ensures.total
             (λ z h e. ⊎_elim (λ (q : z ≡ y). inr q) (λ (q : z ≡ y → ⊥). inl (⊎_elim (λ (x : get_or f.ranks z 0 < c.args.rank). inl x) (λ (x : (get_or f.ranks z 0 ≡ c.args.rank) × (z < y + 1)). inr (x.0, omega (arith, x.1))) e)) (cases_eq z y))),
-        subst (λ (u : List _). Beyond s.rows s.top c.args.table.now u) (sym w.table-is) (λ i d h. w.fill-name.ensures.changed.beyond i d h ∙ c.loop-y.invariant.1 i d h),
+        subst (λ (u : List _). Beyond s.rows s.top c.args.table.now u) (sym w.table-is) (λ i d h. w.fill_name.ensures.changed.beyond i d h ∙ c.loop-y.invariant.1 i d h),
       )
       | else-rank w ↦ (
         subst (λ (u : List _). Ready o F nul s.top c.args.n (Done f.ranks c.args.rank (y + 1)) u) (sym w.table-is)

@@ -15,18 +15,18 @@ loop-rank-init g c =
       λ i d h. refl,
     )
 
-pub fill-rank-requires : goal.fill-rank-requires
-fill-rank-requires g c = record {
+pub fill_rank-requires : goal.fill_rank-requires
+fill_rank-requires g c = record {
   prepared = prepared_again _ _ _ _ c.requires.prepared c.loop-rank.auto.table;
   size = c.requires.size;
   ready = c.loop-rank.invariant.0;
 }
 
 pub loop-rank-preserved : goal.loop-rank-preserved
-loop-rank-preserved g c = (c.fill-rank.ensures.ready, λ i d h. c.fill-rank.ensures.beyond i d h ∙ c.loop-rank.invariant.1 i d h)
+loop-rank-preserved g c = (c.fill_rank.ensures.ready, λ i d h. c.fill_rank.ensures.beyond i d h ∙ c.loop-rank.invariant.1 i d h)
 
-pub fill-items-requires : goal.fill-items-requires
-fill-items-requires g c =
+pub fill_items-requires : goal.fill_items-requires
+fill_items-requires g c =
     let f = c.args.family.now in
     record {
       prepared = prepared_again _ _ _ _ c.requires.prepared c.loop-rank.auto.table;
@@ -43,12 +43,12 @@ returns g c =
     let F = rules_of f in
     let nul = marked f.nullable in
     let N = c.args.shape.top in
-    let u = c.fill-items.new.table in
+    let u = c.fill_items.new.table in
     let again = ready_wrote o laws F nul (keeps f).adopted N c.args.n c.requires.size (λ z. get_or f.ranks z 0 < c.loop-rank.rank) c.loop-rank.table c.loop-rank.invariant.0
-    (λ j. Unit {0}) u c.fill-items.ensures in
+    (λ j. Unit {0}) u c.fill_items.ensures in
     record {
       ready = ready_size o laws F nul (keeps f).adopted N c.args.n c.requires.size (λ z. get_or f.ranks z 0 < c.loop-rank.rank) u again (c.args.n + 1) refl
           (λ z h. omega (arith, (keeps f).ranked.low z h, c.names-rank-end.ensures.value, length-model (lists_of f.grammar)))
-          (λ j h. c.fill-items.ensures.new j h tt);
-      beyond = λ i d h. c.fill-items.ensures.changed.beyond i d (omega (arith, ap (λ r. entries r N) c.requires.prepared.rows_all)) ∙ c.loop-rank.invariant.1 i d h;
+          (λ j h. c.fill_items.ensures.new j h tt);
+      beyond = λ i d h. c.fill_items.ensures.changed.beyond i d (omega (arith, ap (λ r. entries r N) c.requires.prepared.rows_all)) ∙ c.loop-rank.invariant.1 i d h;
     }

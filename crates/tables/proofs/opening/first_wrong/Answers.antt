@@ -12,10 +12,10 @@ returns c =
     let F = rules_of f in
     let N = c.args.shape.top in
     let t = c.args.table.now in
-    let u = c.fill-all.new.table in
-    let each = ready_each count_kind F (marked f.nullable) N (N + 1) (λ z. ⊥) u (omega arith) c.fill-all.ensures.ready in
-    let i = c.first-difference.result in
-    let d = c.first-difference.ensures in
+    let u = c.fill_all.new.table in
+    let each = ready_each count_kind F (marked f.nullable) N (N + 1) (λ z. ⊥) u (omega arith) c.fill_all.ensures.ready in
+    let i = c.first_difference.result in
+    let d = c.first_difference.ensures in
     let size = ap (λ r. entries r N) c.requires.prepared.rows_all in
     record {
       wrong = λ h. first_wrong F N t u each i d.before (omega arith) (d.here h);

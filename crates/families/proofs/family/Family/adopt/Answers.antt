@@ -14,17 +14,17 @@ use Rattle.families.proofs.family.Family.adopt.Goals as goal
 handed : (g h : Grammar) → g ≡ h → ∥ Formed (lists_of h) ∥₁ → Formed (lists_of g)
 handed g h e told = formed_out (lists_of g) (subst (λ (v : Grammar). ∥ Formed (lists_of v) ∥₁) (sym e) told)
 
-pub nullable-names-nullable-requires : goal.nullable-names-nullable-requires
-nullable-names-nullable-requires c = handed _ _ c.grammar-grammar.ensures c.args.draft.formed
+pub nullable_names-nullable-requires : goal.nullable_names-nullable-requires
+nullable_names-nullable-requires c = handed _ _ c.grammar-grammar.ensures c.args.draft.formed
 
-pub all-chains-chains-requires : goal.all-chains-chains-requires
-all-chains-chains-requires c = handed _ _ c.grammar-grammar.ensures c.args.draft.formed
+pub all_chains-chains-requires : goal.all_chains-chains-requires
+all_chains-chains-requires c = handed _ _ c.grammar-grammar.ensures c.args.draft.formed
 
 pub returns-then-cycle-names : goal.returns-then-cycle-names
 returns-then-cycle-names c =
     let l = lists_of c.grammar-grammar.result.now in
     let formed = handed _ _ c.grammar-grammar.ensures c.args.draft.formed in
-    let y = c.first-cycle-cycle.result in
+    let y = c.first_cycle-cycle.result in
     let inside : y < length l.rules = omega (arith, c.names-names.ensures.value) in
     record {
       rules = refl;
@@ -35,31 +35,31 @@ returns-then-cycle-names c =
             name = y;
             defined = inside;
             is = ap₂ EmptyCycle (c.place.ensures ∙ ap (λ r. r.label.place) c.rule.ensures) (c.length.ensures ∙ ap (λ r. r.label.length) c.rule.ensures);
-            cycle = on_cycle l _ _ formed c.nullable-names-nullable.ensures c.all-chains-chains.ensures y inside (c.first-cycle-cycle.ensures.found c.if-cycle-names.true);
-            first = λ z h. off_cycle l _ _ formed c.nullable-names-nullable.ensures c.all-chains-chains.ensures z (omega (arith, formed.few_rules)) (c.first-cycle-cycle.ensures.before z h);
+            cycle = on_cycle l _ _ formed c.nullable_names-nullable.ensures c.all_chains-chains.ensures y inside (c.first_cycle-cycle.ensures.found c.if-cycle-names.true);
+            first = λ z h. off_cycle l _ _ formed c.nullable_names-nullable.ensures c.all_chains-chains.ensures z (omega (arith, formed.few_rules)) (c.first_cycle-cycle.ensures.before z h);
           });
     }
 
-pub invariant-of-self : goal.invariant-of-self
-invariant-of-self c =
+pub invariant_of-self : goal.invariant_of-self
+invariant_of-self c =
     let l = lists_of c.grammar-grammar.result.now in
     let formed = handed _ _ c.grammar-grammar.ensures c.args.draft.formed in
     let whole =
-    sound l _ _ formed c.nullable-names-nullable.ensures c.all-chains-chains.ensures (λ y h. c.first-cycle-cycle.ensures.before y (omega (arith, c.names-names.ensures.value))) c.all-ranks-self.result
-    (λ y h. c.all-ranks-self.ensures y h ∙ ap (count_below (pair c.all-chains-chains.result y)) c.names-names.ensures.value) in
-    (∣ subst (λ (v : Lists). Sound v c.nullable-names-nullable.result c.all-ranks-self.result) (sym c.copy-from.ensures) whole ∣₁, tt)
+    sound l _ _ formed c.nullable_names-nullable.ensures c.all_chains-chains.ensures (λ y h. c.first_cycle-cycle.ensures.before y (omega (arith, c.names-names.ensures.value))) c.all_ranks-self.result
+    (λ y h. c.all_ranks-self.ensures y h ∙ ap (count_below (pair c.all_chains-chains.result y)) c.names-names.ensures.value) in
+    (∣ subst (λ (v : Lists). Sound v c.nullable_names-nullable.result c.all_ranks-self.result) (sym c.copy_from.ensures) whole ∣₁, tt)
 
 pub returns : goal.returns
 returns c =
     let l = lists_of c.grammar-grammar.result.now in
     let formed = handed _ _ c.grammar-grammar.ensures c.args.draft.formed in
     record {
-      rules = c.copy-from.ensures ∙ ap lists_of c.grammar-grammar.ensures;
+      rules = c.copy_from.ensures ∙ ap lists_of c.grammar-grammar.ensures;
       acyclic =
           subst (λ (v : Grammar). (y : ℕ) → Cyclic (lists_of v) y → ⊥) c.grammar-grammar.ensures
-          (acyclic l _ _ formed c.nullable-names-nullable.ensures c.all-chains-chains.ensures (λ y h. c.first-cycle-cycle.ensures.before y (omega (arith, c.names-names.ensures.value))));
+          (acyclic l _ _ formed c.nullable_names-nullable.ensures c.all_chains-chains.ensures (λ y h. c.first_cycle-cycle.ensures.before y (omega (arith, c.names-names.ensures.value))));
       keeps =
-          subst (λ (v : Grammar). Sound (lists_of v) c.nullable-names-nullable.result c.all-ranks-self.result) c.grammar-grammar.ensures
-          (sound l _ _ formed c.nullable-names-nullable.ensures c.all-chains-chains.ensures (λ y h. c.first-cycle-cycle.ensures.before y (omega (arith, c.names-names.ensures.value))) c.all-ranks-self.result
-          (λ y h. c.all-ranks-self.ensures y h ∙ ap (count_below (pair c.all-chains-chains.result y)) c.names-names.ensures.value));
+          subst (λ (v : Grammar). Sound (lists_of v) c.nullable_names-nullable.result c.all_ranks-self.result) c.grammar-grammar.ensures
+          (sound l _ _ formed c.nullable_names-nullable.ensures c.all_chains-chains.ensures (λ y h. c.first_cycle-cycle.ensures.before y (omega (arith, c.names-names.ensures.value))) c.all_ranks-self.result
+          (λ y h. c.all_ranks-self.ensures y h ∙ ap (count_below (pair c.all_chains-chains.result y)) c.names-names.ensures.value));
     }

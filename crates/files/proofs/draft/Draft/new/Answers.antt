@@ -3,5 +3,5 @@ use Rattle.files.specs.Models.{Formed}
 use Rattle.files.proofs.Runs.{none_formed}
 use Rattle.files.proofs.draft.Draft.new.Goals as goal
 
-pub invariant-of-result : goal.invariant-of-result
-invariant-of-result c = (∣ subst Formed (sym c.in-ok-grammar.ensures) none_formed ∣₁, tt)
+pub invariant_of-result : goal.invariant_of-result
+invariant_of-result c = record { formed = ∣ subst Formed (sym c.in_ok-grammar.ensures) none_formed ∣₁ }

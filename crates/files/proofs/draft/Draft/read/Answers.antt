@@ -38,9 +38,9 @@ none f g p o e v s = ap (λ h. scan h p) (sym e) ∙ sym v ∙ ap scan_step s
 inside : {a n : ℕ} {g f : List ℕ} → a ≤ length g → g ≡ f → a ≡ n → n ≤ length f
 inside {a} {n} {g} {f} h e k = subst (λ (x : ℕ). x ≤ length f) k (subst (λ (z : List ℕ). a ≤ length z) e h)
 
-pub returns-then-too-long : goal.returns-then-too-long
-returns-then-too-long c =
-    let told = long c.args.file.now (refused 1 0 0) c.if-too-long.ensures refl in
+pub returns-then-too_long : goal.returns-then-too_long
+returns-then-too_long c =
+    let told = long c.args.file.now (refused 1 0 0) c.if-too_long.ensures refl in
     record {
       answer = file_read _ _ told;
       means = file_means _ _ told;
@@ -48,12 +48,12 @@ returns-then-too-long c =
       same = λ _. refl;
     }
 
-pub returns-in-err-t : goal.returns-in-err-t
-returns-in-err-t c =
-    let p = err_from_is_err_and c.from-residual.result c.from-residual.ensures.1 in
+pub returns-in_err-t : goal.returns-in_err-t
+returns-in_err-t c =
+    let p = err_from_is_err_and c.from_residual.result c.from_residual.ensures.1 in
     let i = c.loop-t.invariant in
     rw (p.1, p.2)
-    (let told = short _ _ c.if-too-long.ensures (i.1 _ (fails (ap (λ f. scan f c.loop-t.lexer.at) (sym i.0) ∙ sym c.in-err-t.ensures.value))) in
+    (let told = short _ _ c.if-too_long.ensures (i.1 _ (fails (ap (λ f. scan f c.loop-t.lexer.at) (sym i.0) ∙ sym c.in_err-t.ensures.value))) in
     record {
       answer = file_read _ _ told;
       means = file_means _ _ told;
@@ -63,25 +63,25 @@ returns-in-err-t c =
 
 pub loop-t-preserved : goal.loop-t-preserved
 loop-t-preserved c =
-    let told = c.in-ok-t.ensures in
+    let told = c.in_ok-t.ensures in
     let i = c.loop-t.invariant in
     let at = told.moved ∙ ap (λ o. next_place c.loop-t.lexer.at (length c.loop-t.lexer.file.now) (scan_step o)) c.in-Some.is in (
-      c.next-token.ensures.same ∙ i.0,
+      c.next_token.ensures.same ∙ i.0,
       λ a rest.
           i.1 a
           (goes _ _ _ (seen _ _ _ _ _ i.0 told.value c.in-Some.is)
-          (subst (λ n. c.loop-t.lexer.at < n) at (told.onward (ap is_some c.in-Some.is))) (inside c.next-token.new.self.within (told.same ∙ i.0) at)
-          (sym c.in-ok-step.ensures.value)
+          (subst (λ n. c.loop-t.lexer.at < n) at (told.onward (ap is_some c.in-Some.is))) (inside c.next_token.new.self.within (told.same ∙ i.0) at)
+          (sym c.in_ok-step.ensures.value)
           (subst (λ n. Reads c.args.file.now n (reading_of c.step.new.self) a) at rest)),
       i.2,
     )
 
-pub returns-in-err-step : goal.returns-in-err-step
-returns-in-err-step c =
-    let p = err_from_is_err_and c.from-residual-in-err-step.result c.from-residual-in-err-step.ensures.1 in
+pub returns-in_err-step : goal.returns-in_err-step
+returns-in_err-step c =
+    let p = err_from_is_err_and c.from_residual-in_err-step.result c.from_residual-in_err-step.ensures.1 in
     let i = c.loop-t.invariant in
     rw (p.1, p.2)
-    (let told = short _ _ c.if-too-long.ensures (i.1 _ (stops _ _ _ (seen _ _ _ _ _ i.0 c.in-ok-t.ensures.value c.in-Some.is) (sym c.in-err-step.ensures.value))) in
+    (let told = short _ _ c.if-too_long.ensures (i.1 _ (stops _ _ _ (seen _ _ _ _ _ i.0 c.in_ok-t.ensures.value c.in-Some.is) (sym c.in_err-step.ensures.value))) in
     record {
       answer = file_read _ _ told;
       means = file_means _ _ told;
@@ -89,12 +89,12 @@ returns-in-err-step c =
       same = λ _. i.2;
     })
 
-pub returns-in-err-finish : goal.returns-in-err-finish
-returns-in-err-finish c =
-    let p = err_from_is_err_and c.from-residual-in-err-finish.result c.from-residual-in-err-finish.ensures.1 in
+pub returns-in_err-finish : goal.returns-in_err-finish
+returns-in_err-finish c =
+    let p = err_from_is_err_and c.from_residual-in_err-finish.result c.from_residual-in_err-finish.ensures.1 in
     let i = c.loop-t.invariant in
     rw (p.1, p.2)
-    (let told = short _ _ c.if-too-long.ensures (i.1 _ (ends (none _ _ _ _ i.0 c.in-ok-t.ensures.value c.in-default.is) (sym c.in-err-finish.ensures))) in
+    (let told = short _ _ c.if-too_long.ensures (i.1 _ (ends (none _ _ _ _ i.0 c.in_ok-t.ensures.value c.in_default.is) (sym c.in_err-finish.ensures))) in
     record {
       answer = file_read _ _ told;
       means = file_means _ _ told;
@@ -105,8 +105,8 @@ returns-in-err-finish c =
 pub returns : goal.returns
 returns c =
     let i = c.loop-t.invariant in
-    let whole = i.1 _ (ends (none _ _ _ _ i.0 c.in-ok-t.ensures.value c.in-default.is) (sym c.in-ok-finish.ensures)) in
-    let told = subst (λ l. ReadsFile c.args.file.now (granted l)) (sym c.copy-from.ensures) (short _ _ c.if-too-long.ensures whole) in
+    let whole = i.1 _ (ends (none _ _ _ _ i.0 c.in_ok-t.ensures.value c.in_default.is) (sym c.in_ok-finish.ensures)) in
+    let told = subst (λ l. ReadsFile c.args.file.now (granted l)) (sym c.copy_from.ensures) (short _ _ c.if-too_long.ensures whole) in
     record {
       answer = file_read _ _ told;
       means = file_means _ _ told;
@@ -114,8 +114,8 @@ returns c =
       same = λ h. absurd (false_true h);
     }
 
-pub invariant-of-self-3 : goal.invariant-of-self-3
-invariant-of-self-3 c =
+pub invariant_of-self-3 : goal.invariant_of-self-3
+invariant_of-self-3 c =
     let i = c.loop-t.invariant in
-    let whole = i.1 _ (ends (none _ _ _ _ i.0 c.in-ok-t.ensures.value c.in-default.is) (sym c.in-ok-finish.ensures)) in
-    (∣ subst Formed (sym c.copy-from.ensures) (draft_formed _ _ (file_means _ _ (short _ _ c.if-too-long.ensures whole))) ∣₁, tt)
+    let whole = i.1 _ (ends (none _ _ _ _ i.0 c.in_ok-t.ensures.value c.in_default.is) (sym c.in_ok-finish.ensures)) in
+    record { formed = ∣ subst Formed (sym c.copy_from.ensures) (draft_formed _ _ (file_means _ _ (short _ _ c.if-too_long.ensures whole))) ∣₁ }

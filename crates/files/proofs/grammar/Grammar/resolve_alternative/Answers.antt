@@ -9,15 +9,15 @@ use Rattle.files.proofs.grammar.Grammar.resolve_alternative.Goals as goal
 pub loop-i-init : goal.loop-i-init
 loop-i-init c = (begun _ _, refl, refl)
 
-pub returns-in-err-resolved : goal.returns-in-err-resolved
-returns-in-err-resolved c =
-    let p = err_from_is_err_and c.from-residual.result c.from-residual.ensures.1 in
-    let all = stopped _ _ c.loop-i.i _ Vacant _ _ _ (omega arith) c.loop-i.invariant.0 (sym c.in-err-resolved.ensures) in
+pub returns-in_err-resolved : goal.returns-in_err-resolved
+returns-in_err-resolved c =
+    let p = err_from_is_err_and c.from_residual.result c.from_residual.ensures.1 in
+    let all = stopped _ _ c.loop-i.i _ Vacant _ _ _ (omega arith) c.loop-i.invariant.0 (sym c.in_err-resolved.ensures) in
     rw (p.1, p.2) (sym (alternative_by (vec_items c.args.self.now.rules) (vec_items c.args.self.now.labels) c.args.alternative _ all))
 
 pub loop-i-preserved : goal.loop-i-preserved
 loop-i-preserved c =
-    (onward _ _ c.loop-i.i _ Vacant _ (omega arith) c.loop-i.invariant.0 (sym c.in-ok-resolved.ensures), c.loop-i.invariant.1, c.loop-i.invariant.2)
+    (onward _ _ c.loop-i.i _ Vacant _ (omega arith) c.loop-i.invariant.0 (sym c.in_ok-resolved.ensures), c.loop-i.invariant.1, c.loop-i.invariant.2)
 
 pub returns : goal.returns
 returns c =

@@ -3,5 +3,5 @@ use Rattle.tables.specs.Counts.{count_kind}
 use Rattle.tables.proofs.Opens.{no_totals}
 use Rattle.tables.proofs.open_table.OpenTable.new.Goals as goal
 
-pub invariant-of-result : goal.invariant-of-result
-invariant-of-result c = (omega arith, (omega arith, (∣ no_totals count_kind 0 [] ∣₁, tt)))
+pub invariant_of-result : goal.invariant_of-result
+invariant_of-result c = (omega arith, (omega arith, (∣ no_totals count_kind 0 [] ∣₁, tt)))
