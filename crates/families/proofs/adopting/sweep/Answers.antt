@@ -6,7 +6,7 @@ use Rattle.families.specs.Sound.{marked}
 use Rattle.files.proofs.Places.{names_are}
 use Rattle.families.proofs.Sweeping.{mark_more, mark_same, unmarked, still_closed}
 use Rattle.families.proofs.adopting.sweep.Goals as goal
-use Rattle.families.proofs.adopting.sweep.Goals.{then-not-nullable-y+then-rule-empty, else-not-nullable-y, else-not-nullable-y-via-then-not-nullable-y+else-rule-empty, else-not-nullable-y-via-else-not-nullable-y}
+use Rattle.families.proofs.adopting.sweep.Goals.{then-not-nullable-y+then-rule_empty, else-not-nullable-y, else-not-nullable-y-via-then-not-nullable-y+else-rule_empty, else-not-nullable-y-via-else-not-nullable-y}
 
 pub loop-y-init : goal.loop-y-init
 loop-y-init c = unmarked _ _ c.told-nullable
@@ -14,10 +14,10 @@ loop-y-init c = unmarked _ _ c.told-nullable
 pub loop-y-preserved : goal.loop-y-preserved
 loop-y-preserved c =
     elim c.if-not-nullable-y.branch [
-      | then-not-nullable-y+then-rule-empty w ↦ mark_more _ _ _ _ _ c.loop-y.invariant _ _ (omega (arith, c.requires.few_rules)) w.if-not-nullable-y.true (sym w.if-rule_empty.ensures) w.nullable-is w.found-is
+      | then-not-nullable-y+then-rule_empty w ↦ mark_more _ _ _ _ _ c.loop-y.invariant _ _ (omega (arith, c.requires.few_rules)) w.if-not-nullable-y.true (sym w.if-rule_empty.ensures) w.nullable-is w.found-is
       | else-not-nullable-y w ↦
           elim w.else-not-nullable-y.branch [
-            | else-not-nullable-y-via-then-not-nullable-y+else-rule-empty v ↦ mark_same _ _ _ _ _ c.loop-y.invariant _ _ (λ e. absurd (both_ways _ (sym v.if-rule_empty.ensures) e)) w.nullable-is w.found-is
+            | else-not-nullable-y-via-then-not-nullable-y+else-rule_empty v ↦ mark_same _ _ _ _ _ c.loop-y.invariant _ _ (λ e. absurd (both_ways _ (sym v.if-rule_empty.ensures) e)) w.nullable-is w.found-is
             | else-not-nullable-y-via-else-not-nullable-y v ↦ mark_same _ _ _ _ _ c.loop-y.invariant _ _ (λ e. v.if-not-nullable-y.false) w.nullable-is w.found-is
           ]
     ]

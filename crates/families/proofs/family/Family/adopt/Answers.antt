@@ -47,7 +47,7 @@ invariant_of-self c =
     let whole =
     sound l _ _ formed c.nullable_names-nullable.ensures c.all_chains-chains.ensures (λ y h. c.first_cycle-cycle.ensures.before y (omega (arith, c.names-names.ensures.value))) c.all_ranks-self.result
     (λ y h. c.all_ranks-self.ensures y h ∙ ap (count_below (pair c.all_chains-chains.result y)) c.names-names.ensures.value) in
-    (∣ subst (λ (v : Lists). Sound v c.nullable_names-nullable.result c.all_ranks-self.result) (sym c.copy_from.ensures) whole ∣₁, tt)
+    record { sound = ∣ subst (λ (v : Lists). Sound v c.nullable_names-nullable.result c.all_ranks-self.result) (sym c.copy_from.ensures) whole ∣₁ }
 
 pub returns : goal.returns
 returns c =

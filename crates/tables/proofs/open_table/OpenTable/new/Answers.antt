@@ -4,4 +4,4 @@ use Rattle.tables.proofs.Opens.{no_totals}
 use Rattle.tables.proofs.open_table.OpenTable.new.Goals as goal
 
 pub invariant_of-result : goal.invariant_of-result
-invariant_of-result c = (omega arith, (omega arith, (∣ no_totals count_kind 0 [] ∣₁, tt)))
+invariant_of-result c = record { low = omega arith; room = omega arith; totals = ∣ no_totals count_kind 0 [] ∣₁ }

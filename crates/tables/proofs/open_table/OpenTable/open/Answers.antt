@@ -34,4 +34,4 @@ invariant_of-self-2 c =
     let f = c.args.family.now in
     let fits = c.in_ok-shape.ensures in
     let totals = c.first_wrong-index.ensures.right (omega (arith, c.if-index-shape.false, ap (entries c.in_ok-shape.shape.rows) fits.2)) in
-    (fits.0.low, (fits.0.long, (∣ subst (λ (n : ℕ). Totals count_kind (rules_of f) n c.args.table.now) fits.2 totals ∣₁, tt)))
+    record { low = fits.0.low; room = fits.0.long; totals = ∣ subst (λ (n : ℕ). Totals count_kind (rules_of f) n c.args.table.now) fits.2 totals ∣₁ }
