@@ -31,7 +31,7 @@ fn entry<K: WeightKind>(shape: Shape, table: &[K], row: usize, n: usize) -> K
     requires room { entries shape.rows shape.top ≤ length table.now }
     requires row { row < shape.rows }
     requires size { n ≤ shape.top }
-    ensures { result ≡ entry_of kind shape.top table.now row n }
+    ensures { result ≡ entry_of K.kind shape.top table.now row n }
 {
     table[place(shape, row, n)]
 }
@@ -47,7 +47,7 @@ fn put<K: WeightKind>(shape: Shape, table: &mut [K], row: usize, n: usize, value
 
 // The total of a literal at k: its weight at its own size.
 fn literal_total<K: WeightKind>(size: u32, cost: u32, k: usize) -> K
-    ensures { result ≡ (if nat_eq k size then kind.weigh cost else kind.none) }
+    ensures { result ≡ (if nat_eq k size then K.kind.weigh cost else K.kind.none) }
 {
     if k == size as usize {
         K::weight(cost)
@@ -62,7 +62,7 @@ fn item_total<K: WeightKind>(shape: Shape, table: &[K], item: Item, k: usize) ->
     requires room { entries shape.rows shape.top ≤ length table.now }
     requires known { Below shape.rows item }
     requires size { k ≤ shape.top }
-    ensures { (ls : List Label) → result ≡ item_value kind (entry_of kind shape.top table.now) (item_model ls item) k }
+    ensures { (ls : List Label) → result ≡ item_value K.kind (entry_of K.kind shape.top table.now) (item_model ls item) k }
 {
     match item {
         Item::Name { number } => entry(shape, table, number, k),
@@ -92,7 +92,7 @@ fn rest_total<K: WeightKind>(
     requires full { alternative.count ≤ length alternative.items }
     requires row { slot < alternative.count → names + (alternative.first + slot) < shape.rows }
     requires size { k ≤ shape.top }
-    ensures { (ls : List Label) → result ≡ tail_entry kind (entry_of kind shape.top table.now) (names + (alternative.first + slot)) (drop slot (alternative_model ls alternative)) k }
+    ensures { (ls : List Label) → result ≡ tail_entry K.kind (entry_of K.kind shape.top table.now) (names + (alternative.first + slot)) (drop slot (alternative_model ls alternative)) k }
 {
     if slot < alternative.count {
         entry(shape, table, item_row(names, alternative, slot), k)
@@ -116,8 +116,8 @@ fn tail_total<K: WeightKind>(
     requires stands { Stands (lists_of family.now.grammar) alternative }
     requires there { slot < alternative.count }
     requires size { n ≤ shape.top }
-    requires rest { (k : ℕ) → k ≤ n → slot + 1 < alternative.count → Right kind (rules_of family.now) shape.top table.now (alternative.first + (slot + 1)) k }
-    ensures { result ≡ tail_value kind (entry_of kind shape.top table.now) (tail_at (rules_of family.now) (alternative.first + slot)) n }
+    requires rest { (k : ℕ) → k ≤ n → slot + 1 < alternative.count → Right K.kind (rules_of family.now) shape.top table.now (alternative.first + (slot + 1)) k }
+    ensures { result ≡ tail_value K.kind (entry_of K.kind shape.top table.now) (tail_at (rules_of family.now) (alternative.first + slot)) n }
 {
     let names = family.names();
     let item = alternative.item(slot);
@@ -141,8 +141,8 @@ fn fill_alternative<K: WeightKind>(
     requires prepared { Prepared family.now shape (length table.old) }
     requires stands { Stands (lists_of family.now.grammar) alternative }
     requires size { n ≤ shape.top }
-    requires lower { (j k : ℕ) → j < item_count (rules_of family.now) → k < n → Right kind (rules_of family.now) shape.top table.old j k }
-    ensures { Wrote kind (rules_of family.now) shape.top n (Of alternative) table.old table.new }
+    requires lower { (j k : ℕ) → j < item_count (rules_of family.now) → k < n → Right K.kind (rules_of family.now) shape.top table.old j k }
+    ensures { Wrote K.kind (rules_of family.now) shape.top n (Of alternative) table.old table.new }
 {
     let names = family.names();
     for slot in (0..alternative.count).rev() {
@@ -162,8 +162,8 @@ fn fill_alternatives<K: WeightKind>(
     requires prepared { Prepared family.now shape (length table.old) }
     requires there { y < length (rules_of family.now) }
     requires size { n ≤ shape.top }
-    requires lower { (j k : ℕ) → j < item_count (rules_of family.now) → k < n → Right kind (rules_of family.now) shape.top table.old j k }
-    ensures { Wrote kind (rules_of family.now) shape.top n (Under (lists_of family.now.grammar) y) table.old table.new }
+    requires lower { (j k : ℕ) → j < item_count (rules_of family.now) → k < n → Right K.kind (rules_of family.now) shape.top table.old j k }
+    ensures { Wrote K.kind (rules_of family.now) shape.top n (Under (lists_of family.now.grammar) y) table.old table.new }
 {
     let rule = family.rule(y);
     for a in 0..rule.count {
@@ -175,8 +175,8 @@ fn fill_alternatives<K: WeightKind>(
 fn fill_items<K: WeightKind>(shape: Shape, family: &Family, table: &mut [K], n: usize)
     requires prepared { Prepared family.now shape (length table.old) }
     requires size { n ≤ shape.top }
-    requires lower { (j k : ℕ) → j < item_count (rules_of family.now) → k < n → Right kind (rules_of family.now) shape.top table.old j k }
-    ensures { Wrote kind (rules_of family.now) shape.top n (λ j. Unit {0}) table.old table.new }
+    requires lower { (j k : ℕ) → j < item_count (rules_of family.now) → k < n → Right K.kind (rules_of family.now) shape.top table.old j k }
+    ensures { Wrote K.kind (rules_of family.now) shape.top n (λ j. Unit {0}) table.old table.new }
 {
     for y in 0..family.names() {
         fill_alternatives(shape, family, table, y, n);
@@ -188,8 +188,8 @@ fn name_total<K: WeightKind>(shape: Shape, family: &Family, table: &[K], y: usiz
     requires prepared { Prepared family.now shape (length table.now) }
     requires there { y < length (rules_of family.now) }
     requires size { n ≤ shape.top }
-    requires right { (j : ℕ) → j < item_count (rules_of family.now) → Under (lists_of family.now.grammar) y j → Right kind (rules_of family.now) shape.top table.now j n }
-    ensures { result ≡ alternatives_value kind (rules_of family.now) (entry_of kind shape.top table.now) y n }
+    requires right { (j : ℕ) → j < item_count (rules_of family.now) → Under (lists_of family.now.grammar) y j → Right K.kind (rules_of family.now) shape.top table.now j n }
+    ensures { result ≡ alternatives_value K.kind (rules_of family.now) (entry_of K.kind shape.top table.now) y n }
 {
     let names = family.names();
     let rule = family.rule(y);
@@ -207,9 +207,9 @@ fn fill_name<K: WeightKind>(shape: Shape, family: &Family, table: &mut [K], y: u
     requires prepared { Prepared family.now shape (length table.old) }
     requires there { y < length (rules_of family.now) }
     requires size { n ≤ shape.top }
-    requires ready { Ready kind (rules_of family.now) (marked family.now.nullable) shape.top n (λ z. slice_index family.now.ranks z < slice_index family.now.ranks y) table.old }
-    ensures total { entry_of kind shape.top table.new y n ≡ total_of kind upward (rules_of family.now) y n }
-    ensures changed { Changed kind shape.rows shape.top n (λ r. (r ≡ y) ⊎ (length (rules_of family.now) ≤ r)) table.old table.new }
+    requires ready { Ready K.kind (rules_of family.now) (marked family.now.nullable) shape.top n (λ z. slice_index family.now.ranks z < slice_index family.now.ranks y) table.old }
+    ensures total { entry_of K.kind shape.top table.new y n ≡ total_of K.kind upward (rules_of family.now) y n }
+    ensures changed { Changed K.kind shape.rows shape.top n (λ r. (r ≡ y) ⊎ (length (rules_of family.now) ≤ r)) table.old table.new }
 {
     if n == 0 && !family.nullable(y) {
         return;
@@ -223,8 +223,8 @@ fn fill_name<K: WeightKind>(shape: Shape, family: &Family, table: &mut [K], y: u
 fn fill_rank<K: WeightKind>(shape: Shape, family: &Family, table: &mut [K], rank: usize, n: usize)
     requires prepared { Prepared family.now shape (length table.old) }
     requires size { n ≤ shape.top }
-    requires ready { Ready kind (rules_of family.now) (marked family.now.nullable) shape.top n (λ z. slice_index family.now.ranks z < rank) table.old }
-    ensures ready { Ready kind (rules_of family.now) (marked family.now.nullable) shape.top n (λ z. slice_index family.now.ranks z < rank + 1) table.new }
+    requires ready { Ready K.kind (rules_of family.now) (marked family.now.nullable) shape.top n (λ z. slice_index family.now.ranks z < rank) table.old }
+    ensures ready { Ready K.kind (rules_of family.now) (marked family.now.nullable) shape.top n (λ z. slice_index family.now.ranks z < rank + 1) table.new }
     ensures beyond { Beyond shape.rows shape.top table.old table.new }
 {
     for y in 0..family.names() {
@@ -239,8 +239,8 @@ fn fill_rank<K: WeightKind>(shape: Shape, family: &Family, table: &mut [K], rank
 fn fill_size<K: WeightKind>(shape: Shape, family: &Family, table: &mut [K], n: usize)
     requires prepared { Prepared family.now shape (length table.old) }
     requires size { n ≤ shape.top }
-    requires ready { Ready kind (rules_of family.now) (marked family.now.nullable) shape.top n (λ _. ⊥) table.old }
-    ensures ready { Ready kind (rules_of family.now) (marked family.now.nullable) shape.top (n + 1) (λ _. ⊥) table.new }
+    requires ready { Ready K.kind (rules_of family.now) (marked family.now.nullable) shape.top n (λ _. ⊥) table.old }
+    ensures ready { Ready K.kind (rules_of family.now) (marked family.now.nullable) shape.top (n + 1) (λ _. ⊥) table.new }
     ensures beyond { Beyond shape.rows shape.top table.old table.new }
 {
     for rank in 0..family.names() {
@@ -252,7 +252,7 @@ fn fill_size<K: WeightKind>(shape: Shape, family: &Family, table: &mut [K], n: u
 // Writes the none at size 0 for each name that cannot be empty.
 fn fill_bare<K: WeightKind>(shape: Shape, family: &Family, table: &mut [K])
     requires prepared { Prepared family.now shape (length table.old) }
-    ensures ready { Ready kind (rules_of family.now) (marked family.now.nullable) shape.top 0 (λ _. ⊥) table.new }
+    ensures ready { Ready K.kind (rules_of family.now) (marked family.now.nullable) shape.top 0 (λ _. ⊥) table.new }
     ensures beyond { Beyond shape.rows shape.top table.old table.new }
 {
     for y in 0..family.names() {
@@ -265,7 +265,7 @@ fn fill_bare<K: WeightKind>(shape: Shape, family: &Family, table: &mut [K])
 // Writes each entry's total.
 pub(crate) fn fill_all<K: WeightKind>(shape: Shape, family: &Family, table: &mut [K])
     requires prepared { Prepared family.now shape (length table.old) }
-    ensures ready { Ready kind (rules_of family.now) (marked family.now.nullable) shape.top (shape.top + 1) (λ _. ⊥) table.new }
+    ensures ready { Ready K.kind (rules_of family.now) (marked family.now.nullable) shape.top (shape.top + 1) (λ _. ⊥) table.new }
     ensures beyond { Beyond shape.rows shape.top table.old table.new }
 {
     fill_bare(shape, family, table);
@@ -290,7 +290,7 @@ pub(crate) fn shape_for(family: &Family, length: usize, top: usize) -> Result<Sh
 
 // Writes each entry's total into the table, or refuses and writes nothing.
 pub fn fill<K: WeightKind>(family: &Family, table: &mut [K], top: usize) -> Result<(), Fault>
-    ensures { Fills kind result family.now top table.old table.new }
+    ensures { Fills K.kind result family.now top table.old table.new }
 {
     let shape = shape_for(family, table.len(), top)?;
     fill_all(shape, family, table);
