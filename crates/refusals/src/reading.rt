@@ -2,6 +2,7 @@
 use crate::support::*;
 use families::family::Family;
 use files::draft::Draft;
+use std::test::Fail;
 
 #[test]
 fn a_file_has_at_most_16384_bytes(rt: HostRuntime) -> Result<(), Fail> {

@@ -2,6 +2,7 @@
 use crate::support::*;
 use std::alloc::Global;
 use std::process::Abort;
+use std::test::Fail;
 use tables::count::Count;
 use tables::filling::fill;
 use tables::open_table::OpenTable;

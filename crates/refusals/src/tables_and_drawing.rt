@@ -7,6 +7,7 @@ use drawing::printing::print;
 use families::family::Family;
 use std::alloc::Global;
 use std::process::Abort;
+use std::test::Fail;
 use tables::cheapest::Cheapest;
 use tables::count::Count;
 use tables::filling::fill;
