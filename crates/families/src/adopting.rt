@@ -1,10 +1,10 @@
 // Adopting a draft: the names that can be empty, the steps, the empty cycles, the ranks.
-ghost use Rattle.std.specs.Prelude.{◌≡◌, ℕ, ◌<◌, ◌≤◌, true, false, ◌&&◌, ◌||◌, Decides, MatchResult, slice_index};
-ghost use Rattle.theory.specs.Nullable.{Nullable, leads, reaches, sweep as empty-by};
+ghost use Rattle.std.specs.Prelude.{◌≡◌, ℕ, ◌<◌, ◌≤◌, true, false, ◌&&◌, ◌||◌, Decides, MatchResult, OnOk, slice_index};
+ghost use Rattle.theory.specs.Nullable.{Nullable, leads, reaches, sweep as empty_by};
 ghost use Rattle.files.specs.Grammars.{lists_of, no_lists};
 ghost use Rattle.files.specs.Models.{Formed, model};
 ghost use Rattle.files.specs.declared.fault.Fault.TheVariants.{OutOfMemory};
-ghost use Rattle.families.specs.Sound.{marked};
+ghost use Rattle.families.specs.Sound.{marked, Sound};
 ghost use Rattle.families.specs.Reaches.{adds_nothing, OthersEmpty, LeadsTo, Swept, pair, Shows, count_below};
 ghost use Rattle.families.specs.Adopts.{Adopts};
 
@@ -44,7 +44,7 @@ fn others_empty(nullable: &[bool; 32], alternative: Alternative, except: usize) 
 // Whether some alternative of the rule has only items that can be empty: no item stands at 6.
 fn rule_empty(grammar: &Grammar, nullable: &[bool; 32], y: usize) -> bool
     requires { Formed (lists_of grammar.now) }
-    ensures { result ≡ empty-by (model (lists_of grammar.now)) (marked nullable.now) y }
+    ensures { result ≡ empty_by (model (lists_of grammar.now)) (marked nullable.now) y }
 {
     let rule = grammar.rule(y);
     for a in 0..rule.count {
@@ -232,7 +232,8 @@ impl Family {
 
     // Uses the draft up, and writes the family unless the draft has an empty cycle.
     pub fn adopt(&mut self, draft: Draft) -> Result<(), Fault>
-        ensures { Adopts result self.old self.new (lists_of draft.grammar) }
+        ensures adopts { Adopts result self.old self.new (lists_of draft.grammar) }
+        ensures keeps { OnOk result (Sound (lists_of draft.grammar) self.new.nullable self.new.ranks) }
     {
         let grammar = draft.grammar();
         let nullable = nullable_names(grammar);

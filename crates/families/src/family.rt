@@ -1,5 +1,6 @@
 // Families.
 ghost use Rattle.files.specs.Grammars.{lists_of};
+ghost use Rattle.files.specs.Models.{NamesDiffer};
 ghost use Rattle.families.specs.Sound.{Sound};
 
 use files::grammar::Grammar;
@@ -12,4 +13,5 @@ pub struct Family {
     pub(crate) nullable: [bool; 32],
     pub(crate) ranks: [usize; 32],
     ghost sound: { ∥ Sound (lists_of grammar) nullable ranks ∥₁ },
+    ghost names_differ: { ∥ NamesDiffer (lists_of grammar) ∥₁ },
 }

@@ -4,8 +4,7 @@ use Rattle.files.specs.Faults.{Answer, refused}
 use Rattle.files.specs.Scans.{scan}
 use Rattle.files.specs.Grammars.{Lists}
 use Rattle.files.specs.Steps.{Reading, fresh}
-use Rattle.files.specs.Files.{next, read_on, read_file}
-use Rattle.files.proofs.Readings.{Reads, ends, goes, stops, fails, ReadsFile}
+use Rattle.files.specs.Files.{next, read_on, read_file, Reads, ends, goes, stops, fails, ReadsFile}
 
 on : (f : List ℕ) {p : ℕ} {r : Reading} {a : Answer Lists} (n : ℕ) → Reads f p r a → p ≤ length f → length f < p + n → read_on f n r (scan f p) ≡ a
 unfolding read_on

@@ -4,7 +4,7 @@ use Rattle.std.proofs.lemmas.List.{length-append, length-drop, length-map, take_
 use Rattle.theory.specs.Lists.{Among, Distinct}
 use Rattle.files.specs.Items.{label_of, text_of, items_of}
 use Rattle.files.specs.Grammars.{Lists, no_lists}
-use Rattle.files.specs.Models.{names_in, Formed}
+use Rattle.files.specs.Models.{names_in, NamesDiffer, Formed}
 use Rattle.files.specs.Sources.{SourceItem, a_name, a_literal, SourceRule, names_of, flat, alternatives_of, items_in_file, Kept, UsesAmong, numbered_item, item_label, items_from, alternative_from, alternatives_from, rules_from, draft_of}
 use Rattle.files.specs.Meanings.{FamilyFile}
 use Rattle.files.specs.declared.item.Item.{Item}
@@ -84,4 +84,7 @@ draft_formed f l h =
       row = row (names_of rs) 0 (alternatives_of rs) k.six h.defined;
       labelled = length-map (items_in_file rs) item_label ∙ sym (all_held (names_of rs) 0 (alternatives_of rs));
     } in
-    subst Formed (sym h.draft) (whole_formed (draft_of rs) (subst (λ (m : ℕ). Whole m (draft_of rs)) (named ∙ sym many) whole) (subst Distinct (sym (texts 0 rs)) k.new))
+    subst Formed (sym h.draft) (whole_formed (draft_of rs) (subst (λ (m : ℕ). Whole m (draft_of rs)) (named ∙ sym many) whole))
+
+pub draft_differs : (f : List ℕ) (l : Lists) → FamilyFile f l → NamesDiffer l
+draft_differs f l h = subst NamesDiffer (sym h.draft) (subst Distinct (sym (texts 0 h.rules)) h.file.kept.new)

@@ -8,7 +8,7 @@ use Rattle.files.specs.Scans.{Word, name, literal, equals, bar, semicolon, colon
 use Rattle.files.specs.Items.{label_of}
 use Rattle.files.specs.Grammars.{Lists, rule_index}
 use Rattle.files.specs.Steps.{Reading, fresh, action, unfit, said, acted, stepped, item_added}
-use Rattle.files.specs.Files.{closed}
+use Rattle.files.specs.Files.{closed, Reads, ends, goes, stops, fails, ReadsFile}
 use Rattle.files.specs.Tokens.{Token, token, width, written, NextToken, Tokens}
 use Rattle.files.specs.Sources.{SourceItem, a_name, a_literal, SourceRule, names_of, flat, alternatives_of, absent, OpenRule, all_alternatives, OpenTokens, closed_rule, RulesTokens, Kept, item_label, alternative_from, rules_from, drafted, read_item}
 use Rattle.files.specs.Meanings.{RuleFile, FamilyFile, Part, nothing, its_name, opened, awaiting, PartTokens, names_begun, alternatives_begun, BeginRules, Start, ReadTo, NoPlace, for_name, for_first, for_next, for_use, for_literal, Refused, too_long, no_token, not_allowed, within_rule, name_taken, no_place, no_rule, undefined_name, Means}
@@ -16,7 +16,6 @@ use Rattle.files.specs.declared.item.Label.{Label}
 use Rattle.files.specs.declared.item.Alternative.{Alternative}
 use Rattle.files.specs.declared.state.State.{State}
 use Rattle.files.specs.declared.state.State.TheVariants.{Outside, Named, Items, AfterLiteral, AfterColon, AfterSize, AfterAt}
-use Rattle.files.proofs.Readings.{Reads, ends, goes, stops, fails, ReadsFile}
 use Rattle.files.proofs.Spelling.{means_found, means_end, means_wrong, token_inside}
 use Rattle.files.proofs.Numbering.{resolves, refuses, name_found, number_among, number_new, rules_count}
 use Rattle.files.proofs.Growth.{flat_append, names_push, alternatives_push, length-alternatives_from}

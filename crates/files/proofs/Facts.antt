@@ -8,7 +8,7 @@ use Rattle.std.proofs.lemmas.Bool.{both_ways, cases_Bool, and_from, and_parts, l
 use Rattle.theory.specs.Lists.{Distinct}
 use Rattle.theory.specs.Families.{Item as Symbol, name, literal, Known, alternative}
 use Rattle.files.specs.Grammars.{Lists, rule_at}
-use Rattle.files.specs.Models.{model, names_in, Formed}
+use Rattle.files.specs.Models.{model, names_in, NamesDiffer, Formed}
 
 known_prop : (m : ℕ) (is : List Symbol) → IsProp (Known m is)
 known_prop m [] = Unit-prop
@@ -66,5 +66,7 @@ module _ (l : Lists) (told : ∥ Formed l ∥₁) where
     numbered = λ y a h k. ∥∥₁_elim told (ℕ_set _ _) (λ f. f.numbered y a h k);
     counted = ∥∥₁_elim told (ℕ_set _ _) (λ f. f.counted);
     defined = λ y a. ∥∥₁_elim told (known_prop (length (model l)) (alternative (model l) y a)) (λ f. f.defined y a);
-    different = ∥∥₁_elim told (distinct_prop (names_in l)) (λ f. f.different);
   }
+
+pub differ_out : (l : Lists) → ∥ NamesDiffer l ∥₁ → NamesDiffer l
+differ_out l told = ∥∥₁_elim told (distinct_prop (names_in l)) (λ d. d)

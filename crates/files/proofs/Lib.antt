@@ -5,7 +5,6 @@ mod Resolves
 pub mod Places
 pub mod Runs
 pub mod Facts
-mod Readings
 mod Computed
 mod Spelling
 mod Numbering

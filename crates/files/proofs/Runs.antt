@@ -7,7 +7,7 @@ use Rattle.theory.specs.Families.{Known, alternatives, alternative, items_in, it
 use Rattle.theory.proofs.Items.{item_count_is}
 use Rattle.files.specs.Items.{items_of}
 use Rattle.files.specs.Grammars.{Lists, no_lists, rule_at, alternative_at}
-use Rattle.files.specs.Models.{item_model, alternative_model, rule_model, model, names_in, Formed}
+use Rattle.files.specs.Models.{item_model, alternative_model, rule_model, model, NamesDiffer, Formed}
 use Rattle.files.specs.declared.item.Item.{Item}
 use Rattle.files.specs.declared.item.Item.TheVariants.{Vacant, Use, Name, Literal}
 use Rattle.files.specs.declared.item.Label.{Label}
@@ -167,9 +167,9 @@ pub record Whole (m : ℕ) (l : Lists) : Type 0 where
   pub row : Row m 0 l.alternatives
   pub labelled : length l.labels ≡ held l.alternatives
 
-pub whole_formed : (l : Lists) → Whole (length l.rules) l → Distinct (names_in l) → Formed l
+pub whole_formed : (l : Lists) → Whole (length l.rules) l → Formed l
 unfolding Owner
-whole_formed l w d = record {
+whole_formed l w = record {
   few_rules = w.few_rules;
   few_alternatives = w.few_alternatives;
   few_items = w.few_items;
@@ -184,7 +184,6 @@ whole_formed l w d = record {
       item_count_is (model l)
       ∙ (let t = total l 0 l.rules (length l.alternatives) w.runs in let u = ap held (take_all (length l.alternatives) l.alternatives (omega arith)) in omega (arith, w.labelled));
   defined = λ y a. defined y a (cases_lt a (rule_at l.rules y).count);
-  different = d;
 }
   where
     m : ℕ
@@ -201,4 +200,8 @@ whole_formed l w d = record {
     defined y a (inr h) = subst (Known (length (model l))) (sym (get_or_past (alternatives (model l) y) a [] (omega (arith, count_is l inside y)))) tt
 
 pub none_formed : Formed no_lists
-none_formed = whole_formed no_lists (record { few_rules = omega arith; few_alternatives = omega arith; few_items = omega arith; runs = refl; row = tt; labelled = refl }) tt
+none_formed = whole_formed no_lists (record { few_rules = omega arith; few_alternatives = omega arith; few_items = omega arith; runs = refl; row = tt; labelled = refl })
+
+-- and no names, which differ
+pub none_differ : NamesDiffer no_lists
+none_differ = tt

@@ -51,6 +51,19 @@ closed AfterColon l n = refused 6 n 0
 closed AfterSize l n = refused 6 n 0
 closed AfterAt l n = refused 6 n 0
 
+-- Reads f p r a: read on from p of the file f, having read r, the answer is a; each token lies in the file, and ends behind p
+pub data Reads (f : List ℕ) : ℕ → Reading → Answer Lists → Type 0 where
+  ends : {p : ℕ} {r : Reading} {a : Answer Lists} → scan f p ≡ end → closed r.state r.lists (length f) ≡ a → Reads f p r a
+  goes : {p : ℕ} {r s : Reading} {a : Answer Lists} (w : Word) (q m : ℕ) → scan f p ≡ found w q m → p < q + m → q + m ≤ length f → stepped r w q m ≡ granted s → Reads f (q + m) s a → Reads f p r a
+  stops : {p k i j : ℕ} {r : Reading} (w : Word) (q m : ℕ) → scan f p ≡ found w q m → stepped r w q m ≡ refused k i j → Reads f p r (refused k i j)
+  fails : {p k i j : ℕ} {r : Reading} → scan f p ≡ wrong k i j → Reads f p r (refused k i j)
+
+-- the answer to reading a file
+abbrev pub ReadsFile : List ℕ → Answer Lists → Type 0
+ReadsFile f a = MatchBool (nat_le (length f) 16384) (Reads f 0 fresh a) (a ≡ refused 1 0 0)
+
+-- The same as a definition that computes
+
 -- having read r, read on from what was found, for at most n tokens
 unfoldable pub read_on : List ℕ → ℕ → Reading → Scan → Answer Lists
 read_on f n r end = closed r.state r.lists (length f)

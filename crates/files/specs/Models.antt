@@ -31,7 +31,11 @@ model l = map (rule_model l) l.rules
 abbrev pub names_in : Lists → List (List ℕ)
 names_in l = map (λ (r : Rule). text_of r.label) l.rules
 
--- the lists fit together: the names differ, each rule's alternatives are there, each alternative is of one rule, its items have the
+-- the names of the rules differ
+abbrev pub NamesDiffer : Lists → Type 0
+NamesDiffer l = Distinct (names_in l)
+
+-- the lists fit together: each rule's alternatives are there, each alternative is of one rule, its items have the
 -- numbers that they should have, and there is a label for each item
 pub record Formed (l : Lists) : Type 0 where
   pub few_rules : length l.rules ≤ 32
@@ -43,4 +47,3 @@ pub record Formed (l : Lists) : Type 0 where
   pub numbered : (y a : ℕ) → y < length l.rules → a < (rule_at l.rules y).count → (alternative_at l.alternatives ((rule_at l.rules y).first + a)).first ≡ first_item (model l) y a
   pub counted : item_count (model l) ≡ length l.labels
   pub defined : Defined (model l)
-  pub different : Distinct (names_in l)

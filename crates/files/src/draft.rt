@@ -1,7 +1,7 @@
 // Drafts.
 ghost use Rattle.std.specs.Prelude.{◌≡◌};
 ghost use Rattle.files.specs.Grammars.{lists_of};
-ghost use Rattle.files.specs.Models.{Formed};
+ghost use Rattle.files.specs.Models.{Formed, NamesDiffer};
 
 use crate::grammar::Grammar;
 use crate::reader::Reader;
@@ -13,6 +13,7 @@ pub struct Draft {
     pub(crate) grammar: Grammar,
     pub(crate) reader: Reader,
     ghost formed: { ∥ Formed (lists_of grammar) ∥₁ },
+    ghost names_differ: { ∥ NamesDiffer (lists_of grammar) ∥₁ },
 }
 
 impl Draft {

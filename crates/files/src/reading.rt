@@ -4,7 +4,7 @@ ghost use Rattle.files.specs.declared.fault.Fault.TheVariants.{OutOfMemory};
 ghost use Rattle.files.specs.Grammars.{Lists, lists_of, no_lists};
 ghost use Rattle.files.specs.Faults.{Answer, answer};
 ghost use Rattle.files.specs.Steps.{reading_of, step_answer};
-ghost use Rattle.files.specs.Files.{resolved_item, resolved_alternative, resolved, closed, read_file, lists_answer};
+ghost use Rattle.files.specs.Files.{resolved_item, resolved_alternative, resolved, closed, ReadsFile, read_file, lists_answer};
 ghost use Rattle.files.specs.Meanings.{Means};
 
 use crate::draft::Draft;
@@ -97,6 +97,7 @@ impl Draft {
     // Fills the draft anew from a family file; a refusal leaves it as it was.
     pub fn read(&mut self, file: &[u8]) -> Result<(), Fault>
         ensures answer { lists_answer result (lists_of self.new.grammar) ≡ read_file file.now }
+        ensures reads { ReadsFile file.now (lists_answer result (lists_of self.new.grammar)) }
         ensures means { Means file.now (lists_answer result (lists_of self.new.grammar)) }
         ensures only { (a : Answer Lists) → Means file.now a → a ≡ lists_answer result (lists_of self.new.grammar) }
         ensures same { is_err result ≡ true → lists_of self.new.grammar ≡ lists_of self.old.grammar }

@@ -1,6 +1,6 @@
 use Rattle.std.proofs.Common.{◌≡◌, ℕ, ◌<◌, length, sym, refl, ap, ◌∙◌, subst, ap₂, arith}
 use Rattle.files.specs.Grammars.{Lists, lists_of}
-use Rattle.files.specs.Models.{Formed}
+use Rattle.files.specs.Models.{Formed, NamesDiffer}
 use Rattle.files.specs.declared.fault.Fault.TheVariants.{EmptyCycle}
 use Rattle.files.specs.declared.grammar.Grammar.{Grammar}
 use Rattle.files.proofs.Facts.{formed_out}
@@ -27,17 +27,20 @@ returns-then-cycle-names c =
     let y = c.first_cycle-cycle.result in
     let inside : y < length l.rules = omega (arith, c.names-names.ensures.value) in
     record {
-      rules = refl;
-      nullable = refl;
-      ranks = refl;
-      cycle = subst (λ (v : Grammar). OnCycle (lists_of v) (EmptyCycle c.place.result c.length.result)) c.grammar-grammar.ensures
-          (record {
-            name = y;
-            defined = inside;
-            is = ap₂ EmptyCycle (c.place.ensures ∙ ap (λ r. r.label.place) c.rule.ensures) (c.length.ensures ∙ ap (λ r. r.label.length) c.rule.ensures);
-            cycle = on_cycle l _ _ formed c.nullable_names-nullable.ensures c.all_chains-chains.ensures y inside (c.first_cycle-cycle.ensures.found c.if-cycle-names.true);
-            first = λ z h. off_cycle l _ _ formed c.nullable_names-nullable.ensures c.all_chains-chains.ensures z (omega (arith, formed.few_rules)) (c.first_cycle-cycle.ensures.before z h);
-          });
+      adopts = (
+        refl,
+        refl,
+        refl,
+        subst (λ (v : Grammar). OnCycle (lists_of v) (EmptyCycle c.place.result c.length.result)) c.grammar-grammar.ensures
+            (record {
+              name = y;
+              defined = inside;
+              is = ap₂ EmptyCycle (c.place.ensures ∙ ap (λ r. r.label.place) c.rule.ensures) (c.length.ensures ∙ ap (λ r. r.label.length) c.rule.ensures);
+              cycle = on_cycle l _ _ formed c.nullable_names-nullable.ensures c.all_chains-chains.ensures y inside (c.first_cycle-cycle.ensures.found c.if-cycle-names.true);
+              first = λ z h. off_cycle l _ _ formed c.nullable_names-nullable.ensures c.all_chains-chains.ensures z (omega (arith, formed.few_rules)) (c.first_cycle-cycle.ensures.before z h);
+            }),
+      );
+      keeps = tt;
     }
 
 pub invariant_of-self : goal.invariant_of-self
@@ -47,17 +50,18 @@ invariant_of-self c =
     let whole =
     sound l _ _ formed c.nullable_names-nullable.ensures c.all_chains-chains.ensures (λ y h. c.first_cycle-cycle.ensures.before y (omega (arith, c.names-names.ensures.value))) c.all_ranks-self.result
     (λ y h. c.all_ranks-self.ensures y h ∙ ap (count_below (pair c.all_chains-chains.result y)) c.names-names.ensures.value) in
-    record { sound = ∣ subst (λ (v : Lists). Sound v c.nullable_names-nullable.result c.all_ranks-self.result) (sym c.copy_from.ensures) whole ∣₁ }
+    record { sound = ∣ subst (λ (v : Lists). Sound v c.nullable_names-nullable.result c.all_ranks-self.result) (sym c.copy_from.ensures) whole ∣₁; names_differ = subst (λ (v : Lists). ∥ NamesDiffer v ∥₁) (ap lists_of (sym c.grammar-grammar.ensures) ∙ sym c.copy_from.ensures) c.args.draft.names_differ }
 
 pub returns : goal.returns
 returns c =
     let l = lists_of c.grammar-grammar.result.now in
     let formed = handed _ _ c.grammar-grammar.ensures c.args.draft.formed in
     record {
-      rules = c.copy_from.ensures ∙ ap lists_of c.grammar-grammar.ensures;
-      acyclic =
-          subst (λ (v : Grammar). (y : ℕ) → Cyclic (lists_of v) y → ⊥) c.grammar-grammar.ensures
-          (acyclic l _ _ formed c.nullable_names-nullable.ensures c.all_chains-chains.ensures (λ y h. c.first_cycle-cycle.ensures.before y (omega (arith, c.names-names.ensures.value))));
+      adopts = (
+        c.copy_from.ensures ∙ ap lists_of c.grammar-grammar.ensures,
+        subst (λ (v : Grammar). (y : ℕ) → Cyclic (lists_of v) y → ⊥) c.grammar-grammar.ensures
+            (acyclic l _ _ formed c.nullable_names-nullable.ensures c.all_chains-chains.ensures (λ y h. c.first_cycle-cycle.ensures.before y (omega (arith, c.names-names.ensures.value)))),
+      );
       keeps =
           subst (λ (v : Grammar). Sound (lists_of v) c.nullable_names-nullable.result c.all_ranks-self.result) c.grammar-grammar.ensures
           (sound l _ _ formed c.nullable_names-nullable.ensures c.all_chains-chains.ensures (λ y h. c.first_cycle-cycle.ensures.before y (omega (arith, c.names-names.ensures.value))) c.all_ranks-self.result

@@ -4,7 +4,7 @@ use Rattle.files.specs.Grammars.{lists_of, rule_index, found_name}
 use Rattle.files.specs.declared.item.Rule.{Rule}
 use Rattle.families.specs.Finds.{Finds}
 use Rattle.families.specs.declared.family.Family.{Family}
-use Rattle.families.proofs.Facts.{sound_out}
+use Rattle.files.proofs.Facts.{differ_out}
 use Rattle.families.proofs.Found.{finds}
 use Rattle.families.proofs.family.Family.find.Goals as goal
 
@@ -19,7 +19,7 @@ none rs s y e h = sym (cond-false _ _ _ (le-ltb (rule_index rs s) (length rs) (o
 
 -- the names of a family differ
 looked_up : (f : Family) (s : List ℕ) (r : Option ℕ) → r ≡ found_name (rules_in f) s → Finds (rules_in f) s r
-looked_up f s r e = subst (Finds (rules_in f) s) (sym e) (finds (rules_in f) s (sound_out (lists_of f.grammar) f.nullable f.ranks f.sound).formed.different)
+looked_up f s r e = subst (Finds (rules_in f) s) (sym e) (finds (rules_in f) s (differ_out (lists_of f.grammar) f.names_differ))
 
 pub returns-then-y-names : goal.returns-then-y-names
 returns-then-y-names c =

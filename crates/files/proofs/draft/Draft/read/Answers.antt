@@ -5,11 +5,10 @@ use Rattle.files.specs.Faults.{Answer, granted, refused}
 use Rattle.files.specs.Scans.{scan, end, found, word_of, scan_step, next_place}
 use Rattle.files.specs.Grammars.{Lists}
 use Rattle.files.specs.Steps.{fresh, reading_of}
-use Rattle.files.specs.Files.{lists_answer}
+use Rattle.files.specs.Files.{lists_answer, Reads, ends, goes, stops, fails, ReadsFile}
 use Rattle.files.specs.declared.token.Spanned.{Spanned}
-use Rattle.files.specs.Models.{Formed}
-use Rattle.files.proofs.Readings.{Reads, ends, goes, stops, fails, ReadsFile}
-use Rattle.files.proofs.Drafts.{draft_formed}
+use Rattle.files.specs.Models.{Formed, NamesDiffer}
+use Rattle.files.proofs.Drafts.{draft_formed, draft_differs}
 use Rattle.files.proofs.Computed.{file_read}
 use Rattle.files.proofs.Means.{file_means}
 use Rattle.files.proofs.Exact.{only_meaning}
@@ -43,6 +42,7 @@ returns-then-too_long c =
     let told = long c.args.file.now (refused 1 0 0) c.if-too_long.ensures refl in
     record {
       answer = file_read _ _ told;
+      reads = told;
       means = file_means _ _ told;
       only = λ b h. only_meaning _ _ b told h;
       same = λ _. refl;
@@ -56,6 +56,7 @@ returns-in_err-t c =
     (let told = short _ _ c.if-too_long.ensures (i.1 _ (fails (ap (λ f. scan f c.loop-t.lexer.at) (sym i.0) ∙ sym c.in_err-t.ensures.value))) in
     record {
       answer = file_read _ _ told;
+      reads = told;
       means = file_means _ _ told;
       only = λ b h. only_meaning _ _ b told h;
       same = λ _. i.2;
@@ -84,6 +85,7 @@ returns-in_err-step c =
     (let told = short _ _ c.if-too_long.ensures (i.1 _ (stops _ _ _ (seen _ _ _ _ _ i.0 c.in_ok-t.ensures.value c.in-Some.is) (sym c.in_err-step.ensures.value))) in
     record {
       answer = file_read _ _ told;
+      reads = told;
       means = file_means _ _ told;
       only = λ b h. only_meaning _ _ b told h;
       same = λ _. i.2;
@@ -97,6 +99,7 @@ returns-in_err-finish c =
     (let told = short _ _ c.if-too_long.ensures (i.1 _ (ends (none _ _ _ _ i.0 c.in_ok-t.ensures.value c.in_default.is) (sym c.in_err-finish.ensures))) in
     record {
       answer = file_read _ _ told;
+      reads = told;
       means = file_means _ _ told;
       only = λ b h. only_meaning _ _ b told h;
       same = λ _. i.2;
@@ -109,6 +112,7 @@ returns c =
     let told = subst (λ l. ReadsFile c.args.file.now (granted l)) (sym c.copy_from.ensures) (short _ _ c.if-too_long.ensures whole) in
     record {
       answer = file_read _ _ told;
+      reads = told;
       means = file_means _ _ told;
       only = λ b h. only_meaning _ _ b told h;
       same = λ h. absurd (false_true h);
@@ -118,4 +122,8 @@ pub invariant_of-self-3 : goal.invariant_of-self-3
 invariant_of-self-3 c =
     let i = c.loop-t.invariant in
     let whole = i.1 _ (ends (none _ _ _ _ i.0 c.in_ok-t.ensures.value c.in_default.is) (sym c.in_ok-finish.ensures)) in
-    record { formed = ∣ subst Formed (sym c.copy_from.ensures) (draft_formed _ _ (file_means _ _ (short _ _ c.if-too_long.ensures whole))) ∣₁ }
+    let file = file_means _ _ (short _ _ c.if-too_long.ensures whole) in
+    record {
+      formed = ∣ subst Formed (sym c.copy_from.ensures) (draft_formed _ _ file) ∣₁;
+      names_differ = ∣ subst NamesDiffer (sym c.copy_from.ensures) (draft_differs _ _ file) ∣₁;
+    }

@@ -2,7 +2,7 @@ use Rattle.std.proofs.Common.{◌≡◌, ◌-◌, length}
 use Rattle.files.specs.Faults.{Answer}
 use Rattle.files.specs.Grammars.{Lists, lists_of}
 use Rattle.files.specs.Steps.{fresh, reading_of}
-use Rattle.files.proofs.Readings.{Reads}
+use Rattle.files.specs.Files.{Reads}
 use Rattle.files.proofs.draft.Draft.read.Given as goal
 
 abbrev pub invariant-loop-t : goal.invariant-loop-t
