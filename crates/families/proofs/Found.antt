@@ -1,5 +1,5 @@
 -- The rule that has a name, where the names differ. Assumes nothing.
-use Rattle.std.proofs.Common.{◌≡◌, ℕ, zero, suc, ◌+◌, ◌<◌, ◌≤◌, Bool, true, false, cond, not, ltb, ◌⊎◌, List, [], ◌∷◌, map, length, get_or, Some, None, Decides, sym, refl, ap, ◌∙◌, subst, inl, inr, ⊎_elim, le_of_suc-le-suc, not-suc-le-zero, arith}
+use Rattle.std.proofs.Common.{◌≡◌, ℕ, zero, suc, ◌+◌, ◌<◌, Bool, true, false, cond, not, ltb, List, [], ◌∷◌, map, length, get_or, Some, None, Decides, sym, refl, ap, ◌∙◌, not-suc-le-zero, arith}
 use lib.ListN.{length-map, get_or-map}
 use Rattle.std.specs.List.{prefix_len}
 use Rattle.std.proofs.lemmas.Slice.Eq.{bytes_eq-Decides}
@@ -7,8 +7,7 @@ use Rattle.std.proofs.lemmas.Bool.{both_ways, true≢false, cond_both, ltb-true,
 use Rattle.theory.specs.Lists.{Distinct}
 use Rattle.theory.proofs.Lists.{getD_once}
 use Rattle.files.specs.Items.{text_of}
-use Rattle.files.specs.Grammars.{Lists, no_rule, rule_at, differs, rule_index, found_name}
-use Rattle.files.specs.Models.{names_in}
+use Rattle.files.specs.Grammars.{no_rule, rule_at, differs, rule_index, found_name}
 use Rattle.files.specs.declared.item.Rule.{Rule}
 use Rattle.families.specs.Finds.{Has, Finds}
 

@@ -1,15 +1,14 @@
 -- The draft of a family file fits together. Assumes nothing.
-use Rattle.std.proofs.Common.{◌≡◌, ℕ, zero, suc, ◌+◌, ◌<◌, ◌≤◌, List, [], ◌∷◌, ◌++◌, map, length, take, drop, replicate, sym, refl, ap, ◌∙◌, subst, ap₂, inl, inr, add-zero, zero-add, arith}
+use Rattle.std.proofs.Common.{◌≡◌, ℕ, zero, suc, ◌+◌, ◌≤◌, List, [], ◌∷◌, ◌++◌, map, length, drop, replicate, sym, refl, ap, ◌∙◌, subst, ap₂, inl, inr, add-zero, zero-add, arith}
 use Rattle.std.proofs.lemmas.List.{length-append, length-drop, length-map, take_at}
 use Rattle.theory.specs.Lists.{Among, Distinct}
-use Rattle.files.specs.Items.{label_of, text_of, items_of}
-use Rattle.files.specs.Grammars.{Lists, no_lists}
-use Rattle.files.specs.Models.{names_in, NamesDiffer, Formed}
-use Rattle.files.specs.Sources.{SourceItem, a_name, a_literal, SourceRule, names_of, flat, alternatives_of, items_in_file, Kept, UsesAmong, numbered_item, item_label, items_from, alternative_from, alternatives_from, rules_from, draft_of}
+use Rattle.files.specs.Items.{text_of, items_of}
+use Rattle.files.specs.Grammars.{Lists}
+use Rattle.files.specs.Models.{NamesDiffer, Formed}
+use Rattle.files.specs.Sources.{SourceItem, a_name, a_literal, SourceRule, names_of, flat, alternatives_of, items_in_file, UsesAmong, numbered_item, item_label, items_from, alternative_from, alternatives_from, rules_from, draft_of}
 use Rattle.files.specs.Meanings.{FamilyFile}
 use Rattle.files.specs.declared.item.Item.{Item}
-use Rattle.files.specs.declared.item.Item.TheVariants.{Vacant, Use, Name, Literal}
-use Rattle.files.specs.declared.item.Label.{Label}
+use Rattle.files.specs.declared.item.Item.TheVariants.{Vacant}
 use Rattle.files.specs.declared.item.Rule.{Rule}
 use Rattle.files.proofs.Numbering.{number_among, rules_count}
 use Rattle.files.proofs.Growth.{length-items_from, length-alternatives_from}

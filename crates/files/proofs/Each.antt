@@ -1,5 +1,5 @@
 -- A list resolved in place, one element after another. Assumes nothing.
-use Rattle.std.proofs.Common.{◌≡◌, ℕ, zero, suc, ◌+◌, ◌<◌, ◌≤◌, List, [], ◌∷◌, ◌++◌, length, get_or, take, drop, set, sym, refl, ap, ◌∙◌, subst, append_assoc, append-nil, add-zero, add-one, arith, length-set, take_all, drop-cons}
+use Rattle.std.proofs.Common.{◌≡◌, ℕ, zero, suc, ◌+◌, ◌<◌, ◌≤◌, List, [], ◌∷◌, ◌++◌, length, get_or, take, drop, set, sym, refl, ap, ◌∙◌, append_assoc, append-nil, add-zero, add-one, arith, length-set, take_all, drop-cons}
 use Rattle.std.proofs.lemmas.List.{take_more_set, drop-set-lt, drop_all, get_or-drop}
 use Rattle.files.specs.Faults.{Answer, granted, refused}
 use Rattle.files.specs.Files.{next, each}

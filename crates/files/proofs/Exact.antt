@@ -1,27 +1,26 @@
 -- A file has one meaning only: the answer that reading gives. Assumes nothing.
-use Rattle.std.proofs.Common.{◌≡◌, ℕ, zero, suc, ◌+◌, ◌<◌, ◌≤◌, Bool, true, false, cond, ◌&&◌, ltb, leb, ◌⊎◌, List, [], ◌∷◌, ◌++◌, map, length, MatchBool, sym, refl, ap, ◌∙◌, subst, inl, inr, ⊎_elim, arith}
+use Rattle.std.proofs.Common.{◌≡◌, ℕ, ◌+◌, ◌<◌, ◌≤◌, true, cond, ◌&&◌, ltb, ◌⊎◌, List, [], ◌∷◌, ◌++◌, map, length, MatchBool, sym, refl, ap, ◌∙◌, subst, inl, inr, ⊎_elim, arith}
 use Rattle.std.proofs.lemmas.Bool.{cond-true, cond-false, and_left, and_right, lt-ltb, le-ltb, le-leb, lt-leb}
 use Rattle.std.proofs.lemmas.List.{append_assoc, append-nil, length-append, length-map, length_push, map-append}
 use Rattle.theory.specs.Lists.{Among}
 use Rattle.files.specs.Faults.{Answer, granted, refused}
 use Rattle.files.specs.Scans.{Word, name, literal, equals, bar, semicolon, colon, at}
-use Rattle.files.specs.Items.{label_of}
 use Rattle.files.specs.Grammars.{Lists, rule_index}
-use Rattle.files.specs.Steps.{Reading, fresh, action, unfit, said, acted, stepped, item_added}
+use Rattle.files.specs.Steps.{Reading, fresh, acted, stepped}
 use Rattle.files.specs.Files.{closed, Reads, ends, goes, stops, fails, ReadsFile}
-use Rattle.files.specs.Tokens.{Token, token, width, written, NextToken, Tokens}
-use Rattle.files.specs.Sources.{SourceItem, a_name, a_literal, SourceRule, names_of, flat, alternatives_of, absent, OpenRule, all_alternatives, OpenTokens, closed_rule, RulesTokens, Kept, item_label, alternative_from, rules_from, drafted, read_item}
-use Rattle.files.specs.Meanings.{RuleFile, FamilyFile, Part, nothing, its_name, opened, awaiting, PartTokens, names_begun, alternatives_begun, BeginRules, Start, ReadTo, NoPlace, for_name, for_first, for_next, for_use, for_literal, Refused, too_long, no_token, not_allowed, within_rule, name_taken, no_place, no_rule, undefined_name, Means}
+use Rattle.files.specs.Tokens.{Token, token, width, Tokens}
+use Rattle.files.specs.Sources.{a_name, a_literal, SourceRule, names_of, flat, alternatives_of, absent, OpenRule, all_alternatives, closed_rule, RulesTokens, Kept, rules_from, drafted, read_item}
+use Rattle.files.specs.Meanings.{RuleFile, Part, nothing, its_name, opened, awaiting, PartTokens, names_begun, alternatives_begun, BeginRules, Start, ReadTo, NoPlace, for_name, for_first, for_next, for_use, for_literal, Refused, too_long, no_token, not_allowed, within_rule, name_taken, no_place, no_rule, undefined_name, Means}
 use Rattle.files.specs.declared.item.Label.{Label}
 use Rattle.files.specs.declared.item.Alternative.{Alternative}
 use Rattle.files.specs.declared.state.State.{State}
-use Rattle.files.specs.declared.state.State.TheVariants.{Outside, Named, Items, AfterLiteral, AfterColon, AfterSize, AfterAt}
+use Rattle.files.specs.declared.state.State.TheVariants.{Outside, AfterColon, AfterAt}
 use Rattle.files.proofs.Spelling.{means_found, means_end, means_wrong, token_inside}
 use Rattle.files.proofs.Numbering.{resolves, refuses, name_found, number_among, number_new, rules_count}
-use Rattle.files.proofs.Growth.{flat_append, names_push, alternatives_push, length-alternatives_from}
-use Rattle.files.proofs.Grown.{open_lists, number, reading_in, reading_named, begun_rule, done, all_items, labels_count, alternatives-count, end_grown}
-use Rattle.files.proofs.Moves.{Ready, in_items, behind_literal, behind_size, Move, marks_size, marks_cost, view, use_adds, literal_adds, bar_nexts, semicolon_ends, at_expects}
-use Rattle.files.proofs.Shows.{open_item, open_next, Costless, named, among_items, after_literal, Shown, shown_fresh}
+use Rattle.files.proofs.Growth.{flat_append, length-alternatives_from}
+use Rattle.files.proofs.Grown.{open_lists, reading_in, reading_named, begun_rule, done, all_items, labels_count, alternatives-count, end_grown}
+use Rattle.files.proofs.Moves.{Ready, in_items, behind_literal, behind_size, Move, marks_size, marks_cost, use_adds, literal_adds, bar_nexts, semicolon_ends, at_expects}
+use Rattle.files.proofs.Shows.{open_item, open_next, named, among_items, Shown, shown_fresh}
 use Rattle.files.proofs.Stepping.{Stopped, unfit_word, taken, full, Outcome, step}
 use Rattle.files.proofs.Paths.{begin, Goes, goes_part, same_end, along_rules, way_on}
 use Rattle.files.proofs.Computed.{file_read}

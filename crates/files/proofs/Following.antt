@@ -1,23 +1,23 @@
 -- Reading the tokens of rules holds these rules. Assumes nothing.
-use Rattle.std.proofs.Common.{◌≡◌, ℕ, zero, suc, ◌+◌, ◌<◌, ◌≤◌, Bool, true, false, cond, ◌&&◌, ltb, ◌⊎◌, List, [], ◌∷◌, ◌++◌, map, length, sym, refl, ap, ◌∙◌, subst, inl, inr, ⊎_elim, arith}
+use Rattle.std.proofs.Common.{◌≡◌, ℕ, ◌+◌, ◌<◌, ◌≤◌, ltb, List, [], ◌∷◌, ◌++◌, length, sym, refl, ap, ◌∙◌, subst, inl, inr, arith}
 use Rattle.std.proofs.lemmas.Bool.{cond-true, cond-false, and_from, lt-ltb, le-ltb}
 use Rattle.std.proofs.lemmas.List.{append_assoc, append-nil, length-append, length-map, length_push}
 use Rattle.theory.specs.Lists.{Among, Distinct}
 use Rattle.theory.proofs.Lists.{among_left, among_right}
-use Rattle.files.specs.Faults.{Answer, granted, refused}
-use Rattle.files.specs.Scans.{Word, name, literal, digits, equals, bar, semicolon, colon, at}
+use Rattle.files.specs.Faults.{granted}
+use Rattle.files.specs.Scans.{name, literal, bar, colon, at}
 use Rattle.files.specs.Items.{label_of, decimal}
-use Rattle.files.specs.Grammars.{Lists, rule_index}
+use Rattle.files.specs.Grammars.{rule_index}
 use Rattle.files.specs.Steps.{Reading, acted, stepped, item_added}
-use Rattle.files.specs.Tokens.{Token, token, width, written}
-use Rattle.files.specs.Sources.{SourceItem, a_name, a_literal, SourceRule, names_of, flat, alternatives_of, InTurn, Optional, absent, given, ItemTokens, AlternativeTokens, BarredTokens, OpenRule, all_alternatives, OpenTokens, closed_rule, RuleTokens, RulesTokens, Kept, item_label, rules_from, drafted, read_item}
+use Rattle.files.specs.Tokens.{Token, token, width}
+use Rattle.files.specs.Sources.{SourceItem, a_name, a_literal, SourceRule, names_of, flat, alternatives_of, InTurn, Optional, absent, given, ItemTokens, AlternativeTokens, BarredTokens, OpenRule, all_alternatives, OpenTokens, Kept, item_label, rules_from, drafted, read_item}
 use Rattle.files.specs.declared.item.Label.{Label}
 use Rattle.files.specs.declared.item.Alternative.{Alternative}
 use Rattle.files.specs.declared.state.State.{State}
 use Rattle.files.specs.declared.state.State.TheVariants.{Outside, Named, Items, AfterLiteral, AfterColon, AfterSize, AfterAt}
-use Rattle.files.proofs.Growth.{flat_append, flat_push, names_push, alternatives_push, length-alternatives_from}
-use Rattle.files.proofs.Grown.{with_last, with_next, begun_rule, number, open_lists, reading_in, reading_named, first_grown, done, regroup, all_items, labels_count, alternatives-count, item_grown, next_grown, end_grown, size_grown, cost_grown}
-use Rattle.files.proofs.Moves.{Ready, in_items, behind_literal, behind_size, Unpriced, bare, sized, use_adds, literal_adds, bar_nexts, semicolon_ends, at_expects}
+use Rattle.files.proofs.Growth.{flat_append, length-alternatives_from}
+use Rattle.files.proofs.Grown.{with_last, begun_rule, open_lists, reading_in, reading_named, first_grown, done, all_items, labels_count, alternatives-count, item_grown, next_grown, size_grown, cost_grown}
+use Rattle.files.proofs.Moves.{Ready, in_items, behind_literal, behind_size, Unpriced, bare, sized, use_adds, literal_adds, bar_nexts, at_expects}
 use Rattle.files.proofs.Numbering.{name_found, number_new, rules_count}
 
 -- the tokens lead the reader from r to s

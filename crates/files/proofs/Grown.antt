@@ -8,7 +8,7 @@ use Rattle.files.specs.Sources.{SourceItem, a_literal, SourceRule, flat, alterna
 use Rattle.files.specs.declared.item.Label.{Label}
 use Rattle.files.specs.declared.item.Alternative.{Alternative}
 use Rattle.files.specs.declared.state.State.{State}
-use Rattle.files.specs.declared.state.State.TheVariants.{Outside, Named, Items}
+use Rattle.files.specs.declared.state.State.TheVariants.{Named, Items}
 use Rattle.files.proofs.Growth.{flat_push, alternatives_push, item_pushed, sized, priced, alternatives_from_push, length-alternatives_from, rules_push}
 
 -- an open rule with another last alternative

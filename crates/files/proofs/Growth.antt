@@ -1,15 +1,10 @@
 -- Drafts with one item, one alternative or one rule more. Assumes nothing.
-use Rattle.std.proofs.Common.{◌≡◌, ℕ, zero, suc, ◌+◌, ◌-◌, ◌<◌, ◌≤◌, List, [], ◌∷◌, ◌++◌, map, length, get_or, drop, set, replicate, sym, refl, ap, ◌∙◌, subst, ap₂, add-zero, zero-add, arith}
-use Rattle.std.proofs.lemmas.List.{append_assoc, append-nil, length-append, length-map, length_push, map-append, set_at, get_or_at, drop_more}
-use Rattle.files.specs.Items.{no_items, with_item, with_put, with_size, with_cost, resized, recosted, item_at, label_of}
-use Rattle.files.specs.Grammars.{Lists}
-use Rattle.files.specs.Steps.{with_alternative, with_label, with_rule}
-use Rattle.files.specs.Sources.{SourceItem, a_name, a_literal, SourceRule, flat, alternatives_of, items_in_file, names_of, item_label, items_from, alternative_from, alternatives_from, rules_from, drafted, read_item}
+use Rattle.std.proofs.Common.{◌≡◌, ℕ, suc, ◌+◌, ◌-◌, ◌<◌, List, [], ◌∷◌, ◌++◌, map, length, get_or, drop, set, replicate, sym, refl, ap, ◌∙◌, ap₂, add-zero, arith}
+use Rattle.std.proofs.lemmas.List.{append_assoc, append-nil, length-append, length_push, map-append, set_at, get_or_at, drop_more}
+use Rattle.files.specs.Items.{with_item, with_put, with_size, with_cost, resized, recosted, item_at, label_of}
+use Rattle.files.specs.Sources.{SourceItem, a_literal, SourceRule, flat, alternatives_of, names_of, items_from, alternative_from, alternatives_from, rules_from, read_item}
 use Rattle.files.specs.declared.item.Item.{Item}
-use Rattle.files.specs.declared.item.Item.TheVariants.{Vacant, Use, Name, Literal}
-use Rattle.files.specs.declared.item.Label.{Label}
-use Rattle.files.specs.declared.item.Alternative.{Alternative}
-use Rattle.files.specs.declared.item.Rule.{Rule}
+use Rattle.files.specs.declared.item.Item.TheVariants.{Vacant}
 
 -- Lists of lists
 

@@ -1,11 +1,11 @@
 -- Looking for the rule of a name, one rule after another. Assumes nothing.
-use Rattle.std.proofs.Common.{◌≡◌, ℕ, ◌+◌, ◌<◌, ◌≤◌, Bool, true, false, not, List, length, get_or, drop, sym, ap, ◌∙◌, subst, arith}
+use Rattle.std.proofs.Common.{◌≡◌, ℕ, ◌+◌, ◌<◌, ◌≤◌, true, false, not, List, length, get_or, drop, ap, subst, arith}
 use Rattle.std.specs.List.{prefix_len}
 use Rattle.std.specs.Str.{bytes_eq}
 use Rattle.std.proofs.lemmas.List.Sums.{prefix_len-drop_yes, prefix_len-drop_no, prefix_len-drop_all}
 use Rattle.files.specs.declared.item.Rule.{Rule}
 use Rattle.files.specs.Items.{text_of}
-use Rattle.files.specs.Grammars.{differs, rule_index}
+use Rattle.files.specs.Grammars.{differs}
 
 module _ (s : List ℕ) (xs ys : List Rule) (same : ys ≡ xs) (y : ℕ) (d : Rule) where
   abbrev left : ℕ → ℕ

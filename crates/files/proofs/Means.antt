@@ -1,19 +1,19 @@
 -- What reading answers is what the file means. Assumes nothing.
-use Rattle.std.proofs.Common.{◌≡◌, ℕ, zero, suc, ◌+◌, ◌<◌, ◌≤◌, Bool, true, false, T, ltb, leb, ◌⊎◌, List, [], ◌∷◌, ◌++◌, length, drop, MatchBool, sym, refl, ap, ◌∙◌, subst, inl, inr, ⊎_elim, not-suc-le-zero, arith}
+use Rattle.std.proofs.Common.{◌≡◌, ℕ, ◌+◌, ◌<◌, ◌≤◌, Bool, true, false, ltb, leb, ◌⊎◌, List, [], ◌∷◌, ◌++◌, length, drop, MatchBool, sym, refl, ap, ◌∙◌, subst, inl, inr, ⊎_elim, not-suc-le-zero}
 use mathlib.Core.Bool.{false≢true}
-use Rattle.std.proofs.lemmas.Bool.{cond_both, ltb-true, ltb-false, leb-true, leb-false, cases_Bool}
-use Rattle.std.proofs.lemmas.List.{append_assoc, append-nil}
-use Rattle.files.specs.Faults.{Answer, granted, refused}
+use Rattle.std.proofs.lemmas.Bool.{cond_both, ltb-true, ltb-false, leb-true, leb-false}
+use Rattle.std.proofs.lemmas.List.{append-nil}
+use Rattle.files.specs.Faults.{Answer, refused}
 use Rattle.files.specs.Bytes.{blank}
-use Rattle.files.specs.Scans.{Word, name, colon, at, scan, end, found, wrong}
+use Rattle.files.specs.Scans.{Word, colon, at}
 use Rattle.files.specs.Grammars.{Lists}
-use Rattle.files.specs.Steps.{Reading, fresh, stepped}
+use Rattle.files.specs.Steps.{Reading, fresh}
 use Rattle.files.specs.Files.{resolved, closed, Reads, ends, goes, stops, fails, ReadsFile}
 use Rattle.files.specs.Tokens.{Every, Token, token, width, written, NextToken, Tokens}
-use Rattle.files.specs.Sources.{SourceItem, SourceRule, names_of, alternatives_of, OpenRule, RulesTokens, Kept, rules_from, drafted, read_item}
-use Rattle.files.specs.Meanings.{RuleFile, FamilyFile, Part, nothing, its_name, opened, awaiting, PartTokens, names_begun, alternatives_begun, BeginRules, Start, ReadTo, NoPlace, FirstUndefined, Refused, too_long, no_token, not_allowed, within_rule, name_taken, no_place, no_rule, undefined_name, Means}
+use Rattle.files.specs.Sources.{SourceRule, names_of, alternatives_of, RulesTokens, Kept, rules_from, drafted, read_item}
+use Rattle.files.specs.Meanings.{RuleFile, Part, nothing, its_name, opened, awaiting, PartTokens, names_begun, alternatives_begun, BeginRules, Start, ReadTo, FirstUndefined, Refused, too_long, no_token, not_allowed, within_rule, name_taken, no_place, no_rule, undefined_name, Means}
 use Rattle.files.specs.declared.state.State.{State}
-use Rattle.files.specs.declared.state.State.TheVariants.{Outside, Named, Items, AfterLiteral, AfterColon, AfterSize, AfterAt}
+use Rattle.files.specs.declared.state.State.TheVariants.{Outside}
 use Rattle.files.proofs.Spelling.{found_means, end_means, wrong_means}
 use Rattle.files.proofs.Numbering.{resolves, refuses, uses_decided, rules_count}
 use Rattle.files.proofs.Shows.{costless_open, Stands, outside, named, among_items, after_literal, after_colon, after_size, after_at, Held, Shown, shown_fresh}

@@ -1,7 +1,7 @@
 -- The moves of the rule reader: which words a state allows, and what they do. Assumes nothing.
 use Rattle.std.proofs.Common.{◌≡◌, ℕ, ◌⊎◌, List, refl, inl, inr}
 use Rattle.files.specs.Scans.{Word, name, literal, digits, equals, bar, semicolon, colon, at}
-use Rattle.files.specs.Steps.{Action, begin_rule, begin_alternative, next_alternative, end_rule, add_name, add_literal, set_size, set_cost, expect_size, expect_cost, unfit, action}
+use Rattle.files.specs.Steps.{next_alternative, end_rule, add_name, add_literal, expect_cost, unfit, action}
 use Rattle.files.specs.declared.state.State.{State}
 use Rattle.files.specs.declared.state.State.TheVariants.{Outside, Named, Items, AfterLiteral, AfterColon, AfterSize, AfterAt}
 

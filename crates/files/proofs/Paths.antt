@@ -1,19 +1,19 @@
 -- Which tokens rules may begin with: those along which the reader's states go. Assumes nothing.
-use Rattle.std.proofs.Common.{◌≡◌, ℕ, Bool, true, false, cond, ltb, ◌⊎◌, List, [], ◌∷◌, ◌++◌, length, sym, refl, ap, ◌∙◌, subst, ⊎_elim, arith}
+use Rattle.std.proofs.Common.{◌≡◌, ℕ, Bool, true, false, cond, ltb, List, [], ◌∷◌, ◌++◌, length, sym, refl, ap, ◌∙◌, subst, ⊎_elim, arith}
 use mathlib.Core.Bool.{false≢true}
 use Rattle.std.proofs.lemmas.List.{append_assoc, append-nil}
 use Rattle.files.specs.Faults.{Answer, granted, refused}
-use Rattle.files.specs.Scans.{Word, name, literal, digits, equals, bar, semicolon, colon, at}
+use Rattle.files.specs.Scans.{Word, digits, equals, bar, semicolon, colon, at}
 use Rattle.files.specs.Steps.{Reading, Action, begin_rule, begin_alternative, next_alternative, end_rule, add_name, add_literal, set_size, set_cost, expect_size, expect_cost, unfit, action, said, acted, stepped}
 use Rattle.files.specs.Items.{label_of, decimal}
 use Rattle.files.specs.Grammars.{rule_index}
 use Rattle.files.specs.Tokens.{Token, token}
 use Rattle.files.specs.Sources.{SourceItem, a_name, a_literal, SourceRule, InTurn, Optional, absent, given, ItemTokens, AlternativeTokens, BarredTokens, OpenRule, OpenTokens, closed_rule, RuleTokens, RulesTokens}
-use Rattle.files.specs.Meanings.{Part, nothing, its_name, opened, awaiting, BeginRules}
+use Rattle.files.specs.Meanings.{Part, BeginRules}
 use Rattle.files.specs.declared.state.State.{State}
 use Rattle.files.specs.declared.state.State.TheVariants.{Outside, Named, Items, AfterLiteral, AfterColon, AfterSize, AfterAt}
 use Rattle.files.proofs.Moves.{Ready, in_items, behind_literal, behind_size, Unpriced, bare, sized, Move, names_rule, begins_first, uses, spells, begins_next, ends_rule, marks_size, marks_cost, says_size, says_cost, view, use_adds, literal_adds, bar_nexts, semicolon_ends, at_expects}
-use Rattle.files.proofs.Shows.{in_turn_push, Costless, with_literal, costless_open, size_read, cost_read, Stands, outside, named, among_items, after_literal, after_colon, after_size, after_at}
+use Rattle.files.proofs.Shows.{in_turn_push, with_literal, costless_open, size_read, cost_read, Stands, outside, named, among_items, after_literal, after_colon, after_size, after_at}
 
 -- Rules begin with what was read
 

@@ -1,6 +1,6 @@
 -- What resolving gives once the items, or the alternatives, are resolved. Assumes nothing.
-use Rattle.std.proofs.Common.{◌≡◌, ℕ, List, ap}
-use Rattle.files.specs.Faults.{Answer, granted, refused}
+use Rattle.std.proofs.Common.{◌≡◌, List, ap}
+use Rattle.files.specs.Faults.{Answer, granted}
 use Rattle.files.specs.Grammars.{Lists}
 use Rattle.files.specs.Files.{next, each, resolved_item, resolved_alternative, resolved}
 use Rattle.files.specs.declared.item.Item.{Item}

@@ -2,7 +2,6 @@
 use Rattle.std.proofs.Common.{◌≡◌, ℕ, zero, suc, ◌+◌, ◌-◌, ◌<◌, ◌≤◌, ◌⊎◌, List, [], ◌∷◌, ◌++◌, map, length, get_or, take, drop, set, sym, refl, ap, ◌∙◌, subst, ap₂, inl, inr, ⊎_elim, le_of_suc-le-suc, not-suc-le-zero, add-zero, zero-add, arith}
 use Rattle.std.proofs.lemmas.Bool.{cases_lt}
 use Rattle.std.proofs.lemmas.List.{get_or_past, length-map, take-map, take-take, take_all}
-use Rattle.theory.specs.Lists.{Distinct}
 use Rattle.theory.specs.Families.{Known, alternatives, alternative, items_in, items_under}
 use Rattle.theory.proofs.Items.{item_count_is}
 use Rattle.files.specs.Items.{items_of}

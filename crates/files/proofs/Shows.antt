@@ -1,26 +1,21 @@
 -- What the rule reader holds shows the rules that were read: whole ones, and a part of one more. Assumes nothing.
-use Rattle.std.proofs.Common.{◌≡◌, ℕ, zero, suc, ◌+◌, ◌-◌, ◌<◌, ◌≤◌, Bool, true, false, cond, ◌&&◌, ltb, ◌⊎◌, List, [], ◌∷◌, ◌++◌, map, length, sym, refl, ap, ◌∙◌, subst, ap₂, inl, inr, ⊎_elim, add-zero, zero-add, arith}
-use Rattle.std.proofs.lemmas.Bool.{cond_both, and_parts, and_cases, ltb-true, ltb-false}
-use Rattle.std.proofs.lemmas.List.{append_assoc, append-nil, length-append, length-map, length_push, map-append}
-use Rattle.theory.specs.Lists.{Among, Distinct}
-use Rattle.theory.proofs.Lists.{among_left, among_right, among_cases, distinct_++}
-use Rattle.files.specs.Faults.{Answer, granted, refused}
-use Rattle.files.specs.Scans.{Word, name, literal, digits, equals, bar, semicolon, colon, at}
-use Rattle.files.specs.Items.{label_of, no_items, decimal}
-use Rattle.files.specs.Grammars.{Lists, rule_index}
-use Rattle.files.specs.Steps.{Reading, fresh, Action, unfit, action, said, acted, stepped, item_added, with_alternative, with_label, with_rule, begin_rule, begin_alternative, next_alternative, end_rule, add_name, add_literal, set_size, set_cost, expect_size, expect_cost}
+use Rattle.std.proofs.Common.{◌≡◌, ℕ, ◌<◌, ◌≤◌, List, [], ◌∷◌, ◌++◌, length, sym, refl, ap, ◌∙◌, subst, inl, inr, ⊎_elim, arith}
+use Rattle.std.proofs.lemmas.List.{append_assoc, append-nil, length_push}
+use Rattle.theory.specs.Lists.{Among}
+use Rattle.theory.proofs.Lists.{among_left, among_cases, distinct_++}
+use Rattle.files.specs.Scans.{name, literal, digits, equals, bar, colon, at}
+use Rattle.files.specs.Items.{label_of, decimal}
+use Rattle.files.specs.Grammars.{Lists}
+use Rattle.files.specs.Steps.{Reading, fresh}
 use Rattle.files.specs.Tokens.{Token, token}
-use Rattle.files.specs.Sources.{SourceItem, a_name, a_literal, SourceRule, names_of, flat, alternatives_of, items_in_file, InTurn, Optional, absent, given, ItemTokens, AlternativeTokens, BarredTokens, OpenRule, all_alternatives, OpenTokens, closed_rule, RuleTokens, RulesTokens, Kept, item_label, alternative_from, alternatives_from, rules_from, drafted, read_item}
-use Rattle.files.specs.Meanings.{Part, nothing, its_name, opened, awaiting, names_begun, alternatives_begun, NoPlace, for_name, for_first, for_next, for_use, for_literal}
+use Rattle.files.specs.Sources.{SourceItem, a_literal, SourceRule, names_of, flat, alternatives_of, InTurn, Optional, absent, given, ItemTokens, BarredTokens, OpenRule, OpenTokens, RulesTokens, Kept, alternative_from, drafted, read_item}
+use Rattle.files.specs.Meanings.{Part, nothing, its_name, opened, awaiting, names_begun, alternatives_begun}
 use Rattle.files.specs.declared.item.Label.{Label}
-use Rattle.files.specs.declared.item.Item.{Item}
 use Rattle.files.specs.declared.item.Alternative.{Alternative}
 use Rattle.files.specs.declared.state.State.{State}
 use Rattle.files.specs.declared.state.State.TheVariants.{Outside, Named, Items, AfterLiteral, AfterColon, AfterSize, AfterAt}
 use Rattle.files.proofs.Growth.{flat_push}
 use Rattle.files.proofs.Grown.{with_last, with_next, number, open_lists, reading_in}
-use Rattle.files.proofs.Moves.{Ready, in_items, behind_literal, behind_size, Unpriced, bare, sized as size-said, Move, names_rule, begins_first, uses, spells, begins_next, ends_rule, marks_size, marks_cost, says_size, says_cost, view, use_adds, literal_adds, bar_nexts, semicolon_ends, at_expects}
-use Rattle.files.proofs.Numbering.{name_found, number_among, among_number, rules_count}
 
 -- Tokens, one after another
 

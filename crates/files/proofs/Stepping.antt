@@ -1,19 +1,18 @@
 -- One step of the rule reader: the rules shown have grown by the token, or the step says why not. Assumes nothing.
-use Rattle.std.proofs.Common.{◌≡◌, ℕ, zero, suc, ◌+◌, ◌-◌, ◌<◌, ◌≤◌, Bool, true, false, cond, ◌&&◌, ltb, ◌⊎◌, List, [], ◌∷◌, ◌++◌, map, length, sym, refl, ap, ◌∙◌, subst, ap₂, inl, inr, ⊎_elim, add-zero, zero-add, arith}
+use Rattle.std.proofs.Common.{◌≡◌, ℕ, ◌+◌, ◌≤◌, false, ◌&&◌, ltb, ◌⊎◌, List, [], ◌∷◌, ◌++◌, length, sym, refl, ap, ◌∙◌, subst, inl, inr, ⊎_elim, arith}
 use Rattle.std.proofs.lemmas.Bool.{cond_both, and_parts, and_cases, ltb-true, ltb-false}
-use Rattle.std.proofs.lemmas.List.{append_assoc, append-nil, length-append, length-map, length_push, map-append}
+use Rattle.std.proofs.lemmas.List.{append_assoc, append-nil, length-append, length-map, length_push}
 use Rattle.theory.specs.Lists.{Among}
 use Rattle.theory.proofs.Lists.{among_right}
 use Rattle.files.specs.Faults.{Answer, granted, refused}
 use Rattle.files.specs.Scans.{Word, name, literal, digits, equals, bar, semicolon, colon, at}
-use Rattle.files.specs.Items.{label_of, no_items, with_item, with_size, with_cost, decimal}
+use Rattle.files.specs.Items.{label_of, no_items, with_item, decimal}
 use Rattle.files.specs.Grammars.{Lists, rule_index}
-use Rattle.files.specs.Steps.{Reading, Action, unfit, action, said, acted, stepped, onward, item_added, with_alternative, with_label, with_rule, begin_rule, begin_alternative, next_alternative, end_rule, add_name, add_literal, set_size, set_cost, expect_size, expect_cost}
+use Rattle.files.specs.Steps.{Reading, Action, unfit, action, said, acted, stepped, onward, item_added, with_alternative, with_label, next_alternative, end_rule, add_name, add_literal, set_size, set_cost, expect_size, expect_cost}
 use Rattle.files.specs.Tokens.{Token, token}
-use Rattle.files.specs.Sources.{SourceItem, a_name, a_literal, SourceRule, names_of, flat, alternatives_of, items_in_file, Optional, absent, given, ItemTokens, OpenRule, all_alternatives, OpenTokens, closed_rule, RuleTokens, RulesTokens, Kept, item_label, alternative_from, alternatives_from, rules_from, drafted, read_item}
+use Rattle.files.specs.Sources.{SourceItem, a_name, a_literal, SourceRule, names_of, flat, alternatives_of, absent, OpenRule, all_alternatives, OpenTokens, closed_rule, RuleTokens, RulesTokens, Kept, item_label, alternative_from, rules_from, drafted, read_item}
 use Rattle.files.specs.Meanings.{Part, nothing, its_name, opened, awaiting, names_begun, alternatives_begun, NoPlace, for_name, for_first, for_next, for_use, for_literal}
 use Rattle.files.specs.declared.item.Label.{Label}
-use Rattle.files.specs.declared.item.Item.{Item}
 use Rattle.files.specs.declared.item.Alternative.{Alternative}
 use Rattle.files.specs.declared.state.State.{State}
 use Rattle.files.specs.declared.state.State.TheVariants.{Outside, Named, Items, AfterLiteral, AfterColon, AfterSize, AfterAt}

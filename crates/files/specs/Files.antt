@@ -1,5 +1,5 @@
 -- How a whole file is read. Assumes nothing.
-use Rattle.std.specs.Prelude.{◌≡◌, ℕ, zero, suc, ◌+◌, ◌<◌, ◌≤◌, Bool, cond, List, [], ◌∷◌, length, Ok, Err, MatchBool, Result, nat_le, nat_lt}
+use Rattle.std.specs.Prelude.{◌≡◌, ℕ, zero, suc, ◌+◌, ◌<◌, ◌≤◌, cond, List, [], ◌∷◌, length, Ok, Err, MatchBool, Result, nat_le, nat_lt}
 use Rattle.files.specs.Faults.{Answer, granted, refused, refusal}
 use Rattle.files.specs.Scans.{Word, Scan, end, found, wrong, scan}
 use Rattle.files.specs.Items.{text_of}

@@ -1,10 +1,9 @@
 -- Labels, items and alternatives. Assumes nothing.
-use Rattle.std.specs.Prelude.{ℕ, ◌+◌, ◌-◌, ◌*◌, List, [], ◌∷◌, ◌++◌, length, take, drop, replicate, fold, slice_index_or, slice_set}
+use Rattle.std.specs.Prelude.{ℕ, ◌+◌, ◌-◌, ◌*◌, List, ◌++◌, length, take, drop, replicate, fold, slice_index_or, slice_set}
 use Rattle.files.specs.declared.item.Label.{Label}
 use Rattle.files.specs.declared.item.Item.{Item}
 use Rattle.files.specs.declared.item.Item.TheVariants.{Vacant, Use, Name, Literal}
 use Rattle.files.specs.declared.item.Alternative.{Alternative}
-use Rattle.files.specs.declared.item.Rule.{Rule}
 
 -- a text of at most 24 bytes, read at a place
 abbrev pub label_of : List ℕ → ℕ → Label

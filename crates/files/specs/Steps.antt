@@ -1,5 +1,5 @@
 -- How rules are read, token by token. Assumes nothing.
-use Rattle.std.specs.Prelude.{ℕ, ◌+◌, ◌-◌, Bool, cond, ◌&&◌, List, [], ◌∷◌, ◌++◌, length, Ok, Err, Result, nat_lt}
+use Rattle.std.specs.Prelude.{ℕ, ◌-◌, cond, ◌&&◌, List, [], ◌∷◌, ◌++◌, length, Ok, Err, Result, nat_lt}
 use Rattle.files.specs.Faults.{Answer, granted, refused, refusal}
 use Rattle.files.specs.Scans.{Word, name, literal, digits, equals, bar, semicolon, colon, at}
 use Rattle.files.specs.Items.{label_of, no_items, with_item, with_size, with_cost, decimal}

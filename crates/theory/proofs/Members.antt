@@ -6,7 +6,6 @@ use Rattle.theory.specs.Lists.{Among, Distinct, below}
 use Rattle.theory.specs.Families.{Item, name, literal, Family, alternatives, alternative}
 use Rattle.theory.specs.Layouts.{Forest, end, leaf, node, Layout, plain, chosen, join, ForestValid, Valid, forest_size, size, ForestOf, LayoutOf, forest_depth, depth}
 use Rattle.theory.specs.Sequence.{pairs, item_layouts, forests, layouts_within}
-use Rattle.theory.specs.Totals.{sum_of}
 use Rattle.theory.proofs.Lists.{among_map, map_among, distinct_map, among_joined, joined_among, distinct_joined, among_count, count_among, distinct_count}
 
 -- a list that is kept on a test

@@ -4,7 +4,7 @@ use Rattle.std.proofs.lemmas.Bool.{cases_lt}
 use Rattle.theory.specs.Kinds.{Kind, Laws}
 use Rattle.theory.specs.Orders.{Splits}
 use Rattle.theory.specs.Lists.{Among, below}
-use Rattle.theory.specs.Families.{Item, name, Family, tails}
+use Rattle.theory.specs.Families.{Item, name, Family}
 use Rattle.theory.specs.Layouts.{forest_costs, costs}
 use Rattle.theory.specs.Sequence.{layouts, tail_forests}
 use Rattle.theory.specs.Totals.{

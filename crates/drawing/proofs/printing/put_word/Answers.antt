@@ -1,4 +1,4 @@
-use Rattle.std.proofs.Common.{◌≡◌, ℕ, ◌≤◌, List, [], ◌∷◌, length, Ok, sym, refl, subst, arith}
+use Rattle.std.proofs.Common.{◌≡◌, ℕ, ◌≤◌, List, [], ◌∷◌, length, Ok, sym, subst, arith}
 use Rattle.drawing.specs.Pages.{Kept}
 use Rattle.drawing.proofs.Pages.{puts_keep, keeps_after, kept_same}
 use Rattle.drawing.proofs.printing.put_word.Goals as goal

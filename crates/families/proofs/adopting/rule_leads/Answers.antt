@@ -1,5 +1,5 @@
 use Rattle.std.proofs.Common.{[], sym, ap, ◌∙◌, arith, below_more}
-use Rattle.theory.specs.Families.{alternatives, alternative}
+use Rattle.theory.specs.Families.{alternatives}
 use Rattle.theory.specs.Nullable.{leads_in}
 use Rattle.theory.proofs.Ranks.{any_at}
 use Rattle.files.specs.Grammars.{lists_of}

@@ -1,4 +1,4 @@
-use Rattle.std.proofs.Common.{◌≡◌, ℕ, ◌+◌, ◌-◌, ◌*◌, ◌<◌, ◌≤◌, sym, ap, ◌∙◌, add-one, arith, take_all}
+use Rattle.std.proofs.Common.{ℕ, ◌+◌, ◌-◌, ◌*◌, ap, ◌∙◌, add-one, arith, take_all}
 use Rattle.std.proofs.lemmas.List.Sums.{fold_more}
 use Rattle.files.specs.Items.{decimal}
 use Rattle.files.proofs.Digits.{most, few}

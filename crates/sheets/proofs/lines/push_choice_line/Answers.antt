@@ -1,5 +1,5 @@
-use Rattle.std.proofs.Common.{◌≡◌, ℕ, List, [], ◌∷◌, ◌++◌, vec_items, decimal, sym, ap, ◌∙◌}
-use Rattle.sheets.specs.Lines.{values, dotted, shown_text}
+use Rattle.std.proofs.Common.{[], ◌∷◌, ◌++◌, vec_items}
+use Rattle.sheets.specs.Lines.{values, dotted}
 use Rattle.sheets.proofs.Appends.{behind}
 use Rattle.sheets.proofs.lines.push_choice_line.Goals as goal
 

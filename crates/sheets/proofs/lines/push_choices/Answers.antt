@@ -1,4 +1,4 @@
-use Rattle.std.proofs.Common.{◌≡◌, ℕ, ◌+◌, ◌<◌, List, [], ◌∷◌, ◌++◌, length, get_or, take, vec_items, decimal, sym, ap, ◌∙◌, arith, length-take-le, take_all}
+use Rattle.std.proofs.Common.{◌≡◌, ℕ, [], ◌∷◌, ◌++◌, get_or, take, vec_items, decimal, sym, ap, ◌∙◌, arith, length-take-le, take_all}
 use Rattle.std.proofs.lemmas.List.{take_more}
 use Rattle.sheets.specs.Lines.{dotted}
 use Rattle.sheets.proofs.Appends.{push_next, push_first}

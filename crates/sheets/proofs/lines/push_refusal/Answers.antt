@@ -1,4 +1,4 @@
-use Rattle.std.proofs.Common.{◌≡◌, ℕ, List, [], ◌∷◌, ◌++◌, vec_items, codes, decimal, sym, ap, ◌∙◌}
+use Rattle.std.proofs.Common.{◌≡◌, ℕ, List, [], ◌∷◌, ◌++◌, vec_items, codes, decimal, ap, ◌∙◌}
 use Rattle.files.specs.Faults.{fault_number, fault_place, fault_length}
 use Rattle.sheets.specs.Lines.{values}
 use Rattle.sheets.proofs.Appends.{behind}

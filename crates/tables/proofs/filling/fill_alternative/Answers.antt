@@ -1,6 +1,5 @@
 use Rattle.std.proofs.Common.{◌≡◌, ℕ, ◌+◌, ◌-◌, ◌<◌, ◌≤◌, sym, ap, ◌∙◌, subst, inl, inr, ⊎_elim, arith}
 use Rattle.std.proofs.lemmas.Bool.{cases_eq}
-use Rattle.theory.specs.Tables.{item_row}
 use Rattle.files.specs.Grammars.{lists_of}
 use Rattle.tables.specs.Tables.{rules_of}
 use Rattle.tables.specs.Fillings.{Of, Right}

@@ -1,11 +1,11 @@
-use Rattle.std.proofs.Common.{◌≡◌, ℕ, ◌<◌, ◌≤◌, Bool, true, false, not, T, ltb, List, length, is_some, Some, None, MatchBool, Option, sym, refl, ap, ◌∙◌, subst, arith}
+use Rattle.std.proofs.Common.{◌≡◌, ℕ, ◌<◌, ◌≤◌, true, false, not, T, ltb, List, length, is_some, Some, None, MatchBool, Option, sym, refl, ap, ◌∙◌, subst}
 use Rattle.std.proofs.lemmas.Result.{err_from_is_err_and}
 use Rattle.std.proofs.lemmas.Bool.{le-leb, lt-leb, ltb-true, ltb-false}
 use Rattle.files.specs.Faults.{Answer, granted, refused}
 use Rattle.files.specs.Scans.{scan, end, found, word_of, scan_step, next_place}
 use Rattle.files.specs.Grammars.{Lists}
 use Rattle.files.specs.Steps.{fresh, reading_of}
-use Rattle.files.specs.Files.{lists_answer, Reads, ends, goes, stops, fails, ReadsFile}
+use Rattle.files.specs.Files.{Reads, ends, goes, stops, fails, ReadsFile}
 use Rattle.files.specs.declared.token.Spanned.{Spanned}
 use Rattle.files.specs.Models.{Formed, NamesDiffer}
 use Rattle.files.proofs.Drafts.{draft_formed, draft_differs}

@@ -1,9 +1,9 @@
-use Rattle.std.proofs.Common.{◌≡◌, vec_items, sym, refl, ap, ◌∙◌, arith}
+use Rattle.std.proofs.Common.{◌≡◌, vec_items, sym, ◌∙◌, arith}
 use Rattle.std.proofs.lemmas.Result.{err_from_is_err_and}
 use Rattle.files.specs.Faults.{granted}
 use Rattle.files.specs.Grammars.{lists_of}
 use Rattle.files.specs.Files.{resolved_alternative}
-use Rattle.files.proofs.Each.{begun, onward, stopped, done}
+use Rattle.files.proofs.Each.{onward, stopped, done}
 use Rattle.files.proofs.Resolves.{lists_by}
 use Rattle.files.proofs.grammar.Grammar.resolve_all.Goals as goal
 

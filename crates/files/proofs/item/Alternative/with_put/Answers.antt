@@ -1,6 +1,5 @@
-use Rattle.std.proofs.Common.{sym, ap, arith}
+use Rattle.std.proofs.Common.{sym, arith}
 use Rattle.std.proofs.lemmas.List.{set_past}
-use Rattle.files.specs.declared.item.Alternative.{Alternative}
 use Rattle.files.proofs.item.Alternative.with_put.Goals as goal
 
 pub returns-else-i-lt6 : goal.returns-else-i-lt6

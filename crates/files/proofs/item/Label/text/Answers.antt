@@ -1,4 +1,4 @@
-use Rattle.std.proofs.Common.{◌≡◌, ℕ, ◌-◌, ◌≤◌, min, List, length, take, sym, ap, ◌∙◌, ⊎_elim, arith, take_all}
+use Rattle.std.proofs.Common.{◌≡◌, ℕ, ◌-◌, min, List, length, take, sym, ap, ◌∙◌, ⊎_elim, arith, take_all}
 use Rattle.std.proofs.str.Laws.{order}
 use Rattle.files.proofs.item.Label.text.Goals as goal
 

@@ -1,7 +1,6 @@
 use Rattle.std.proofs.Common.{◌≡◌, ℕ, sym, ap, ◌∙◌}
-use Rattle.files.specs.Faults.{Answer}
 use Rattle.files.specs.Scans.{Word, word_of}
-use Rattle.files.specs.Steps.{Reading, reading_of, acted, action, said, stepped}
+use Rattle.files.specs.Steps.{Reading, acted, action, said, stepped}
 use Rattle.files.specs.declared.state.State.{State}
 use Rattle.files.proofs.reader.Reader.step.Goals as goal
 
