@@ -4,8 +4,6 @@
 ghost use Rattle.worked.specs.Worked.{WorkedCases};
 
 // Each of the worked cases comes out as it should.
-pub fn worked_cases() -> u8
+pub fn worked_cases()
     ensures { WorkedCases }
-{
-    0
-}
+{}
