@@ -5,7 +5,7 @@ use Rattle.std.proofs.lemmas.Bool.{true≢false, both_ways, cases_Bool}
 use Rattle.std.proofs.lemmas.List.FromFn.{length-range_with_len, get_or-range_with_len}
 use Rattle.std.proofs.lemmas.List.Sums.{sum_by-cons, sum_by-le-sum_by, count_by-le-length}
 use Rattle.theory.specs.Families.{Family as Rules}
-use Rattle.theory.specs.Nullable.{leads, nullable_set, Chain, last, step, Adopted, reaches, FindsChains}
+use Rattle.theory.specs.Nullable.{nullable_set, Chain, last, step, Adopted, reaches, FindsChains}
 use Rattle.theory.proofs.Ranks.{step_known, leads-known, chain_known, closure_adopts, closure_finds_chains}
 use Rattle.theory.proofs.Sweeps.{sweeps_find_nullable}
 use Rattle.files.specs.Grammars.{lists_of}

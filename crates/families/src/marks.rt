@@ -1,18 +1,14 @@
 // The names of a draft that can be empty, and the steps between its names.
-ghost use Rattle.std.specs.Prelude.{◌≡◌, ℕ, ◌<◌, true, false, Bool, List, map};
-ghost use Rattle.theory.specs.Lists.{any};
-ghost use Rattle.theory.specs.Families.{Item as Symbol, alternatives};
+ghost use Rattle.std.specs.Prelude.{◌≡◌, ℕ, ◌<◌, true, false, List, map};
 ghost use Rattle.theory.specs.Nullable.{nullable_set, item_empty, all_empty, is_name, leads_in, leads, reaches, sweep as empty_by};
 ghost use Rattle.files.specs.Items.{items_of};
-ghost use Rattle.files.specs.Models.{item_model, alternative_model};
-ghost use Rattle.files.specs.declared.item.Alternative.{Alternative as Stored};
-ghost use Rattle.files.specs.declared.item.Label.{Label};
+ghost use Rattle.files.specs.Models.{item_model};
 ghost use Rattle.families.specs.Sound.{marked};
-ghost use Rattle.families.specs.Reaches.{Shows, symbol, rules_of};
+ghost use Rattle.families.specs.Reaches.{Shows, TellsOfAny, symbol, rules_of};
 
 use crate::relation::Relation;
 use files::draft::Draft;
-use files::item::{Alternative, Item};
+use files::item::{Alternative, Item, Label};
 
 // A draft, with the names of it that are marked as those that can be empty.
 #[derive(Drop)]
@@ -39,7 +35,7 @@ fn items_of(alternative: &Alternative) -> &[Item]
 // Whether the test passes some alternative of name y.
 fn some_alternative<F: Fn(Alternative) -> bool>(draft: &Draft, y: usize, test: F) -> bool
     requires { F.IsAlwaysCallable test }
-    ensures { (p : List Symbol → Bool) → ((a : Stored) (r : Bool) → F.post test a r → r ≡ p (alternative_model draft.now.grammar.labels.items a)) → result ≡ any p (alternatives (rules_of draft.now) y) }
+    ensures { TellsOfAny draft.now y (F.post test) result }
 {
     let grammar = draft.grammar();
     let rule = grammar.rule(y);

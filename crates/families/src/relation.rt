@@ -1,7 +1,7 @@
 // Relations of names.
-ghost use Rattle.std.specs.Prelude.{◌≡◌, ℕ, ◌<◌, true, false, ◌&&◌, ◌||◌, MatchOption, slice_index, slice_index_or, count_by};
+ghost use Rattle.std.specs.Prelude.{◌≡◌, ℕ, ◌<◌, true, false, MatchOption, slice_index, slice_index_or, count_by};
 ghost use Rattle.std.specs.List.{range_with_len};
-ghost use Rattle.families.specs.Reaches.{pair, Shows};
+ghost use Rattle.families.specs.Reaches.{pair, Shows, joined, NoCycleBelow};
 
 // Which names a name leads to, for every name: a row for each.
 #[derive(Drop)]
@@ -38,7 +38,7 @@ impl Relation {
 
     // The relation with the pairs that meet at `by`.
     pub(crate) fn lengthened(&self, by: usize) -> Relation
-        ensures { Shows result.rows (λ x y. pair self.now.rows x y || (pair self.now.rows x by && pair self.now.rows by y)) }
+        ensures { Shows result.rows (joined self.now.rows by) }
     {
         Relation::new(|from, to| {
             self.holds(from, to) || (self.holds(from, by) && self.holds(by, to))
@@ -47,7 +47,8 @@ impl Relation {
 
     // The first name that is related to itself.
     pub(crate) fn first_cycle(&self) -> Option<usize>
-        ensures { MatchOption result ((k : ℕ) → k < 32 → pair self.now.rows k k ≡ false) (λ y. (y < 32) × (pair self.now.rows y y ≡ true) × ((k : ℕ) → k < y → pair self.now.rows k k ≡ false)) }
+        ensures { MatchOption result (NoCycleBelow self.now.rows 32)
+            (λ y. (y < 32) × (pair self.now.rows y y ≡ true) × NoCycleBelow self.now.rows y) }
     {
         (0..32).find(|y| self.holds(*y, *y))
     }

@@ -1,4 +1,4 @@
-use Rattle.std.proofs.Common.{◌≡◌, ℕ, ◌<◌, length, sym, refl, ap, ◌∙◌, subst, ap₂, arith}
+use Rattle.std.proofs.Common.{length, sym, refl, ap, ◌∙◌, subst, ap₂, arith}
 use Rattle.files.specs.Grammars.{Lists, lists_of, rule_at}
 use Rattle.files.specs.Models.{NamesDiffer}
 use Rattle.files.specs.declared.fault.Fault.TheVariants.{EmptyCycle}

@@ -1,4 +1,4 @@
-use Rattle.std.proofs.Common.{rules, arith, ◌≡◌, ℕ, ◌<◌, ◌≤◌, true, false, Bool, MatchOption, Some, None}
+use Rattle.std.proofs.Common.{rules, ◌≡◌, true, false}
 use Rattle.std.proofs.lemmas.Iterator.{first_from_Range}
 use Rattle.families.specs.Reaches.{pair}
 use Rattle.families.proofs.relation.Relation.first_cycle.Goals as goal
