@@ -16,7 +16,7 @@ rules_of d = model (lists_of d.grammar)
 abbrev pub symbol : Draft → Item → Symbol
 symbol d = item_model (lists_of d.grammar).labels
 
--- r is whether some alternative of name y passes p, for each test p of which calls tell
+-- where the answers that Tells gives for alternatives are those of a test p, r is whether some alternative of name y passes p
 abbrev pub TellsOfAny : Draft → ℕ → (Alternative → Bool → Type 0) → Bool → Type 0
 TellsOfAny d y Tells r = (p : List Symbol → Bool) → ((a : Alternative) (b : Bool) → Tells a b → b ≡ p (alternative_model (lists_of d.grammar).labels a)) → r ≡ any p (alternatives (rules_of d) y)
 

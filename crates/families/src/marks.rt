@@ -10,7 +10,7 @@ use crate::relation::Relation;
 use files::draft::Draft;
 use files::item::{Alternative, Item, Label};
 
-// A draft, with the names of it that are marked as those that can be empty.
+// A draft, and marks at the names of it that can be empty.
 #[derive(Drop)]
 pub(crate) struct Marks<'d> {
     draft: &'d Draft,
@@ -43,7 +43,7 @@ fn some_alternative<F: Fn(Alternative) -> bool>(draft: &Draft, y: usize, test: F
 }
 
 impl<'d> Marks<'d> {
-    // The names that can be empty: as many sweeps as there are names find them all.
+    // The draft with all names marked that can be empty: as many sweeps as there are names find them.
     pub(crate) fn new(draft: &'d Draft) -> Marks<'d>
         ensures draft { result.draft.now ≡ draft.now }
         ensures found { (y : ℕ) → marked result.nullable y ≡ nullable_set (rules_of draft.now) y }
@@ -109,7 +109,7 @@ impl<'d> Marks<'d> {
         )
     }
 
-    // The names that can be empty by what is marked so far.
+    // The draft with the names marked that can be empty by the marks so far.
     fn swept(&self) -> Marks<'d>
         ensures draft { result.draft.now ≡ self.now.draft.now }
         ensures swept { (y : ℕ) → y < 32 → marked result.nullable y ≡ empty_by (rules_of self.now.draft.now) (marked self.now.nullable) y }

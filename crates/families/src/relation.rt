@@ -3,14 +3,14 @@ ghost use Rattle.std.specs.Prelude.{◌≡◌, ℕ, ◌<◌, true, false, MatchO
 ghost use Rattle.std.specs.List.{range_with_len};
 ghost use Rattle.families.specs.Reaches.{pair, Shows, joined, NoCycleBelow};
 
-// Which names a name leads to, for every name: a row for each.
+// A relation of names: the row of a name has a flag for each name that it is related to.
 #[derive(Drop)]
 pub(crate) struct Relation {
     rows: [[bool; 32]; 32],
 }
 
 impl Relation {
-    // The relation of the names that the test passes.
+    // The relation that has each pair which passes the test.
     pub(crate) fn new<F: Fn(usize, usize) -> bool>(test: F) -> Relation
         requires { F.IsAlwaysCallable test }
         ensures { (x y : ℕ) → x < 32 → y < 32 → F.post test x y (pair result.rows x y) }
@@ -36,7 +36,7 @@ impl Relation {
             .unwrap_or(false)
     }
 
-    // The relation with the pairs that meet at `by`.
+    // The relation with each pair besides that goes by way of `by`.
     pub(crate) fn lengthened(&self, by: usize) -> Relation
         ensures { Shows result.rows (joined self.now.rows by) }
     {
@@ -53,14 +53,14 @@ impl Relation {
         (0..32).find(|y| self.holds(*y, *y))
     }
 
-    // How many of the first names `from` is related to.
+    // To how many of the first `names` names `from` is related.
     fn rank(&self, from: usize, names: usize) -> usize
         ensures { result ≡ count_by (pair self.now.rows from) (range_with_len 0 names) }
     {
         (0..names).filter(|to| self.holds(from, *to)).count()
     }
 
-    // The ranks of all names.
+    // The ranks of all names, of which there are `names`.
     pub(crate) fn ranks(&self, names: usize) -> [usize; 32]
         ensures { (y : ℕ) → y < 32 → slice_index result y ≡ count_by (pair self.now.rows y) (range_with_len 0 names) }
     {
