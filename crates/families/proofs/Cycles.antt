@@ -1,51 +1,21 @@
--- Empty cycles and ranks by what the arrays of flags show. Assumes nothing.
-use Rattle.std.proofs.Common.{◌≡◌, ℕ, zero, suc, ◌+◌, ◌<◌, ◌≤◌, Bool, true, false, cond, ◌&&◌, ◌||◌, eqb, List, [], ◌∷◌, length, get_or, sym, refl, ap, ◌∙◌, subst, ap₂, ⊎_elim, le_of_suc-le-suc, not-suc-le-zero, eq-or-lt_of_le, arith}
+-- Empty cycles and ranks, by what the flags of the chains show. Assumes nothing.
+use Rattle.std.proofs.Common.{◌≡◌, ℕ, zero, suc, ◌+◌, ◌<◌, ◌≤◌, Bool, true, false, cond, List, [], ◌∷◌, length, get_or, count_by, sym, refl, ap, ◌∙◌, subst, ⊎_elim, not-suc-le-zero, le_of_suc-le-suc, arith}
+use Rattle.std.specs.List.{range_with_len}
 use Rattle.std.proofs.lemmas.Bool.{true≢false, both_ways, cases_Bool}
-use Rattle.theory.specs.Lists.{any}
-use Rattle.theory.specs.Families.{Item as Symbol, name, literal, Family as Rules, alternatives, alternative, Known, Defined}
-use Rattle.theory.specs.Nullable.{all_empty, leads_in, leads, Nullable, nullable_set, Chain, last, step, EmptyCycle, Adopted, reaches}
+use Rattle.std.proofs.lemmas.List.FromFn.{length-range_with_len, get_or-range_with_len}
+use Rattle.std.proofs.lemmas.List.Sums.{sum_by-cons, sum_by-le-sum_by, count_by-le-length}
+use Rattle.theory.specs.Families.{Family as Rules}
+use Rattle.theory.specs.Nullable.{nullable_set, Chain, last, step, Adopted, reaches, FindsChains}
 use Rattle.theory.proofs.Ranks.{step_known, leads-known, chain_known, closure_adopts, closure_finds_chains}
 use Rattle.theory.proofs.Sweeps.{sweeps_find_nullable}
-use Rattle.theory.proofs.Nullable.{nullable_one}
-use Rattle.files.specs.Grammars.{Lists, no_lists}
-use Rattle.files.specs.Models.{model, Formed}
-use Rattle.families.specs.Sound.{marked, RankedBy, Sound}
-use Rattle.families.specs.Reaches.{pair, Shows, count_below}
+use Rattle.files.specs.Grammars.{lists_of}
+use Rattle.files.specs.Models.{Formed}
+use Rattle.files.specs.declared.draft.Draft.{Draft}
+use Rattle.files.proofs.Facts.{formed_out}
 use Rattle.files.proofs.Places.{names_are}
-use Rattle.files.proofs.Runs.{none_formed}
-
--- Sets that agree on a family's names make the same steps
-
-module _ (m : ℕ) (nul lun : ℕ → Bool) (agree : (y : ℕ) → y < m → nul y ≡ lun y) where
-  all_same : (is : List Symbol) → Known m is → all_empty nul is ≡ all_empty lun is
-  all_same [] k = refl
-  all_same (literal t s c ∷ is) k = ap (λ b. eqb s 0 && b) (all_same is k)
-  all_same (name y ∷ is) k = ap₂ ◌&&◌ (agree y k.0) (all_same is k.1)
-
-  leads_in_same : (z : ℕ) (is : List Symbol) → Known m is → leads_in nul z is ≡ leads_in lun z is
-  leads_in_same z [] k = refl
-  leads_in_same z (literal t s c ∷ is) k = ap (λ b. eqb s 0 && b) (leads_in_same z is k)
-  leads_in_same z (name y ∷ is) k = ap₂ ◌||◌ (ap (λ b. eqb y z && b) (all_same is k.1)) (ap₂ ◌&&◌ (agree y k.0) (leads_in_same z is k.1))
-
-any_same : {A : Type 0} (f g : A → Bool) (xs : List A) (d : A) → ((i : ℕ) → f (get_or xs i d) ≡ g (get_or xs i d)) → any f xs ≡ any g xs
-any_same f g [] d h = refl
-any_same f g (x ∷ xs) d h = ap₂ ◌||◌ (h 0) (any_same f g xs d (λ i. h (suc i)))
-
-module _ (F : Rules) (nul lun : ℕ → Bool) (defined : Defined F) (agree : (y : ℕ) → y < length F → nul y ≡ lun y) where
-  leads_same : (x y : ℕ) → leads F nul x y ≡ leads F lun x y
-  leads_same x y = any_same (leads_in nul y) (leads_in lun y) (alternatives F x) [] (λ i. leads_in_same (length F) nul lun agree y (alternative F x i) (defined x i))
-
-  pub chain_same : {x y : ℕ} → Chain F nul x y → Chain F lun x y
-  chain_same (last {x} {y} e) = last (sym (leads_same x y) ∙ e)
-  chain_same (step {x} {y} w e c) = step w (sym (leads_same x w) ∙ e) (chain_same c)
-
--- a set that was found has the cycles of the family's own
-module _ (F : Rules) (nul : ℕ → Bool) (defined : Defined F) (found : Nullable F nul) where
-  pub cycle_to : (x : ℕ) → EmptyCycle F nul x → EmptyCycle F (nullable_set F) x
-  cycle_to x c = chain_same F nul (nullable_set F) defined (nullable_one F nul (nullable_set F) found (sweeps_find_nullable F)) c
-
-  pub cycle_from : (x : ℕ) → EmptyCycle F (nullable_set F) x → EmptyCycle F nul x
-  cycle_from x c = chain_same F (nullable_set F) nul defined (nullable_one F (nullable_set F) nul (sweeps_find_nullable F) found) c
+use Rattle.families.specs.Sound.{marked, RankedBy, Sound}
+use Rattle.families.specs.Reaches.{pair, rules_of, Shows}
+use Rattle.families.specs.Adopts.{Cyclic}
 
 -- Counting
 
@@ -55,27 +25,31 @@ bit_le true false h = absurd (true≢false (sym (h refl)))
 bit_le false true h = omega arith
 bit_le false false h = omega arith
 
-count_le : (p q : ℕ → Bool) (n : ℕ) → ((z : ℕ) → p z ≡ true → q z ≡ true) → count_below p n ≤ count_below q n
-count_le p q zero h = omega arith
-count_le p q (suc n) h = omega (arith, bit_le (p n) (q n) (h n), count_le p q n h)
+one_more : (p : ℕ → Bool) (x : ℕ) (xs : List ℕ) → count_by p (x ∷ xs) ≡ cond (p x) 1 0 + count_by p xs
+one_more p x xs = sum_by-cons (λ z. cond (p z) 1 0) x xs
 
-count_lt : (p q : ℕ → Bool) (n x : ℕ) → ((z : ℕ) → p z ≡ true → q z ≡ true) → x < n → p x ≡ false → q x ≡ true → count_below p n < count_below q n
-count_lt p q zero x h l a b = absurd (not-suc-le-zero l)
-count_lt p q (suc n) x h l a b = ⊎_elim
-    (λ (e : x ≡ n).
-    let c : cond {A = ℕ} (p n) 1 0 ≡ 0 = ap (λ v. cond v 1 0) (ap p (sym e) ∙ a) in
-    let d : cond {A = ℕ} (q n) 1 0 ≡ 1 = ap (λ v. cond v 1 0) (ap q (sym e) ∙ b) in
-    omega (arith, count_le p q n h))
-    (λ (k : x < n). omega (arith, bit_le (p n) (q n) (h n), count_lt p q n x h k a b))
-    (eq-or-lt_of_le (le_of_suc-le-suc l))
+module _ (p q : ℕ → Bool) (more : (z : ℕ) → p z ≡ true → q z ≡ true) where
+  count_le : (xs : List ℕ) → count_by p xs ≤ count_by q xs
+  count_le xs = sum_by-le-sum_by (λ z. cond (p z) 1 0) (λ z. cond (q z) 1 0) xs (λ z. bit_le (p z) (q z) (more z))
 
-count-all : (n : ℕ) → count_below (λ z. true) n ≡ n
-count-all zero = refl
-count-all (suc n) = omega (arith, count-all n)
+  count_lt : (xs : List ℕ) (i d : ℕ) → i < length xs → p (get_or xs i d) ≡ false → q (get_or xs i d) ≡ true → count_by p xs < count_by q xs
+  count_lt [] i d l a b = absurd (not-suc-le-zero l)
+  count_lt (x ∷ xs) zero d l a b =
+      let c : cond {A = ℕ} (p x) 1 0 ≡ 0 = ap (λ v. cond v 1 0) a in
+      let e : cond {A = ℕ} (q x) 1 0 ≡ 1 = ap (λ v. cond v 1 0) b in
+      omega (arith, one_more p x xs, one_more q x xs, count_le xs)
+  count_lt (x ∷ xs) (suc i) d l a b = omega (arith, one_more p x xs, one_more q x xs, bit_le (p x) (q x) (more x), count_lt xs i d (le_of_suc-le-suc l) a b)
 
-count_same : (p q : ℕ → Bool) (n : ℕ) → ((z : ℕ) → z < n → p z ≡ q z) → count_below p n ≡ count_below q n
-count_same p q zero h = refl
-count_same p q (suc n) h = ap₂ ◌+◌ (count_same p q n (λ z l. h z (omega arith))) (ap (λ b. cond b 1 0) (h n (omega arith)))
+  count_below : (n x : ℕ) → x < n → p x ≡ false → q x ≡ true → count_by p (range_with_len 0 n) < count_by q (range_with_len 0 n)
+  count_below n x l a b =
+      let at : x ≡ get_or (range_with_len 0 n) x 0 = omega (arith, get_or-range_with_len 0 n x 0 l) in
+      count_lt (range_with_len 0 n) x 0 (omega (arith, length-range_with_len 0 n)) (ap p (sym at) ∙ a) (ap q (sym at) ∙ b)
+
+count_same : (p q : ℕ → Bool) (i n : ℕ) → ((z : ℕ) → z < i + n → p z ≡ q z) → count_by p (range_with_len i n) ≡ count_by q (range_with_len i n)
+count_same p q i zero h = refl
+count_same p q i (suc n) h =
+    let e : cond {A = ℕ} (p i) 1 0 ≡ cond (q i) 1 0 = ap (λ b. cond b 1 0) (h i (omega arith)) in
+    omega (arith, one_more p i (range_with_len (i + 1) n), one_more q i (range_with_len (i + 1) n), count_same p q (i + 1) n (λ z l. h z (omega arith)))
 
 -- how many names a name reaches falls along every step
 module _ (F : Rules) (nul : ℕ → Bool) (adopted : Adopted F nul) where
@@ -88,61 +62,70 @@ module _ (F : Rules) (nul : ℕ → Bool) (adopted : Adopted F nul) where
       (λ (t : reaches F nul x x ≡ false). t)
       (cases_Bool (reaches F nul x x))
 
-  pub ranked : (rank : ℕ → ℕ) → ((y : ℕ) → y < length F → rank y ≡ count_below (reaches F nul y) (length F)) → RankedBy F nul rank
+  ranked : (rank : ℕ → ℕ) → ((y : ℕ) → y < length F → rank y ≡ count_by (reaches F nul y) (range_with_len 0 (length F))) → RankedBy F nul rank
   ranked rank is = record {
-    low = λ y h. omega (arith, is y h, count_lt (reaches F nul y) (λ z. true) (length F) y (λ z e. refl) h (not_round y) refl, count-all (length F));
+    low = λ y h. omega (arith, is y h, count_below (reaches F nul y) (λ z. true) (λ z e. refl) (length F) y h (not_round y) refl, count_by-le-length (λ z. true) (range_with_len 0 (length F)), length-range_with_len 0 (length F));
     falls = λ x y e.
         let a = leads-known F nul x y e in
         let b = step_known F nul adopted.defined x y e in
         let more : (z : ℕ) → reaches F nul y z ≡ true → reaches F nul x z ≡ true = λ z t. finds x z (step y e ((closure_finds_chains F nul adopted.defined y z).found t)) in
-        omega (arith, is x a, is y b, count_lt (reaches F nul y) (reaches F nul x) (length F) y more b (not_round y) (finds x y (last e)));
+        omega (arith, is x a, is y b, count_below (reaches F nul y) (reaches F nul x) more (length F) y b (not_round y) (finds x y (last e)));
   }
 
--- What adopting finds
+-- What adopting finds in a draft, of which e is a copy
 
-module _ (l : Lists) (nullable : List Bool) (chains : List Bool) (formed : Formed l) (found : Nullable (model l) (marked nullable)) (shows : Shows chains (reaches (model l) (marked nullable))) where
-  known-below : (x : ℕ) → x < length (model l) → x < 32
-  known-below x h = omega (arith, formed.few_rules, names_are l)
+module _ (d e : Draft) (copied : e ≡ d) (nullable : List Bool) (rows : List (List Bool)) (found : (y : ℕ) → marked nullable y ≡ nullable_set (rules_of d) y) (shows : Shows rows (reaches (rules_of e) (marked nullable))) where
+  F : Rules
+  F = rules_of d
 
-  pub on_cycle : (y : ℕ) → y < length l.rules → pair chains y y ≡ true → EmptyCycle (model l) (nullable_set (model l)) y
-  on_cycle y h e =
-      let k : y < 32 = omega (arith, formed.few_rules) in
-      cycle_to (model l) (marked nullable) formed.defined found y ((closure_finds_chains (model l) (marked nullable) formed.defined y y).found (sym (shows y y k k) ∙ e))
+  nul : ℕ → Bool
+  nul = nullable_set (rules_of d)
 
-  pub off_cycle : (y : ℕ) → y < 32 → pair chains y y ≡ false → EmptyCycle (model l) (nullable_set (model l)) y → ⊥
-  off_cycle y k e c =
-      both_ways (pair chains y y) e (shows y y k k ∙ (closure_finds_chains (model l) (marked nullable) formed.defined y y).finds (cycle_from (model l) (marked nullable) formed.defined found y c))
+  formed : Formed (lists_of d.grammar)
+  formed = formed_out (lists_of d.grammar) d.formed
 
-  module _ (none : (y : ℕ) → y < length l.rules → pair chains y y ≡ false) where
-    adopted : Adopted (model l) (marked nullable)
-    adopted = closure_adopts (model l) (marked nullable) formed.defined found (λ x h. let k = known-below x h in sym (shows x x k k) ∙ none x (omega (arith, names_are l)))
+  same : marked nullable ≡ nul
+  unfolding nul
+  same i y = found y i
 
-    pub acyclic : (y : ℕ) → EmptyCycle (model l) (nullable_set (model l)) y → ⊥
-    acyclic y c = adopted.acyclic y (cycle_from (model l) (marked nullable) formed.defined found y c)
+  names : length F ≡ length (lists_of d.grammar).rules
+  unfolding F
+  names = names_are (lists_of d.grammar)
 
-    pub sound : (ranks : List ℕ) → ((y : ℕ) → y < 32 → get_or ranks y 0 ≡ count_below (pair chains y) (length l.rules)) → Sound l nullable ranks
-    sound ranks is = record {
+  known : (x : ℕ) → x < length F → x < 32
+  known x h = omega (arith, formed.few_rules, names)
+
+  chains : (x y : ℕ) → FindsChains F nul x y
+  unfolding F
+  chains = closure_finds_chains F nul formed.defined
+
+  shown : (x y : ℕ) → x < 32 → y < 32 → pair rows x y ≡ reaches F nul x y
+  unfolding F
+  shown x y h k = shows x y h k ∙ ap (λ v. reaches (rules_of v) (marked nullable) x y) copied ∙ ap (λ P. reaches F P x y) same
+
+  pub on_cycle : (y : ℕ) → y < 32 → pair rows y y ≡ true → (y < length (lists_of d.grammar).rules) × Cyclic (lists_of d.grammar) y
+  unfolding F nul
+  on_cycle y h t = let c = (chains y y).found (sym (shown y y h h) ∙ t) in (omega (arith, chain_known F nul c, names), c)
+
+  pub off_cycle : (y : ℕ) → y < 32 → pair rows y y ≡ false → Cyclic (lists_of d.grammar) y → ⊥
+  unfolding F nul
+  off_cycle y h t c = both_ways (pair rows y y) t (shown y y h h ∙ (chains y y).finds c)
+
+  module _ (none : (y : ℕ) → y < 32 → pair rows y y ≡ false) where
+    adopted : Adopted F nul
+    unfolding F nul
+    adopted = closure_adopts F nul formed.defined (sweeps_find_nullable F) (λ x h. let k = known x h in sym (shown x x k k) ∙ none x k)
+
+    pub acyclic : (y : ℕ) → Cyclic (lists_of d.grammar) y → ⊥
+    unfolding F nul
+    acyclic = adopted.acyclic
+
+    pub sound : (ranks : List ℕ) (n : ℕ) → n ≡ length (lists_of d.grammar).rules → ((y : ℕ) → y < 32 → get_or ranks y 0 ≡ count_by (pair rows y) (range_with_len 0 n)) → Sound (lists_of d.grammar) nullable ranks
+    unfolding F
+    sound ranks n all is = record {
       formed = formed;
-      adopted = adopted;
-      ranked = ranked (model l) (marked nullable) adopted (λ y. get_or ranks y 0) (λ y h.
-          let k = known-below y h in
-          is y k ∙ ap (count_below (pair chains y)) (sym (names_are l)) ∙ count_same (pair chains y) (reaches (model l) (marked nullable) y) (length (model l)) (λ z g. shows y z k (known-below z g)));
+      adopted = subst (Adopted F) (sym same) adopted;
+      ranked = subst (λ P. RankedBy F P (λ y. get_or ranks y 0)) (sym same) (ranked F nul adopted (λ y. get_or ranks y 0) (λ y h.
+          let k = known y h in
+          is y k ∙ ap (λ m. count_by (pair rows y) (range_with_len 0 m)) (all ∙ sym names) ∙ count_same (pair rows y) (reaches F nul y) 0 (length F) (λ z g. shown y z k (known z (omega arith)))));
     }
-
--- the family without names
-none_at_all : (nullable : List Bool) (ranks : List ℕ) → Sound no_lists nullable ranks
-none_at_all nullable ranks = record {
-  formed = none_formed;
-  adopted = record {
-    defined = none_formed.defined;
-    nullable = record { closed = λ y a h e. absurd (not-suc-le-zero h); least = λ P h y k e. absurd (not-suc-le-zero k) };
-    acyclic = λ x c. absurd (not-suc-le-zero (chain_known (model no_lists) (marked nullable) c));
-  };
-  ranked = record {
-    low = λ y h. absurd (not-suc-le-zero h);
-    falls = λ x y e. absurd (not-suc-le-zero (leads-known (model no_lists) (marked nullable) x y e));
-  };
-}
-
-pub none_sound : (l : Lists) (nullable : List Bool) (ranks : List ℕ) → l ≡ no_lists → Sound l nullable ranks
-none_sound l nullable ranks e = subst (λ (v : Lists). Sound v nullable ranks) (sym e) (none_at_all nullable ranks)

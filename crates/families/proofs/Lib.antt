@@ -1,6 +1,5 @@
-mod Decided
-mod Found
-mod Sweeping
-mod Flags
-pub mod Facts
+mod Alternatives
 mod Cycles
+mod Found
+mod Made
+mod Sweeping

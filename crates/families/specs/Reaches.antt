@@ -1,51 +1,37 @@
--- Which stored rules can be empty, and which names lead to which: by the places of items, and as arrays of flags. Assumes nothing.
-use Rattle.std.specs.Prelude.{◌≡◌, ℕ, zero, suc, ◌+◌, ◌*◌, ◌<◌, Bool, true, false, cond, List, [], ◌∷◌, ◌==◌, ◌≢◌, slice_index_or}
-use Rattle.theory.specs.Families.{Family as Rules}
-use Rattle.theory.specs.Nullable.{Closed}
-use Rattle.files.specs.Items.{item_at}
-use Rattle.families.specs.Sound.{marked}
+-- A draft's rules as the family that they are, and relations of names as rows of flags. Assumes nothing.
+use Rattle.std.specs.Prelude.{◌≡◌, ℕ, ◌<◌, Bool, false, ◌&&◌, ◌||◌, List, [], slice_index_or}
+use Rattle.theory.specs.Lists.{any}
+use Rattle.theory.specs.Families.{Item as Symbol, Family as Rules, alternatives}
+use Rattle.files.specs.Grammars.{lists_of}
+use Rattle.files.specs.Models.{item_model, alternative_model, model}
+use Rattle.files.specs.declared.draft.Draft.{Draft}
 use Rattle.files.specs.declared.item.Item.{Item}
-use Rattle.files.specs.declared.item.Item.TheVariants.{Vacant, Use, Name, Literal}
 use Rattle.files.specs.declared.item.Alternative.{Alternative}
 
--- the item adds nothing to a layout's size
-abbrev pub adds_nothing : (ℕ → Bool) → Item → Bool
-adds_nothing nul Vacant = true
-adds_nothing nul (Use t) = true
-adds_nothing nul (Name y) = nul y
-adds_nothing nul (Literal t s c) = s == 0
+-- the family that a draft's rules are
+abbrev pub rules_of : Draft → Rules
+rules_of d = model (lists_of d.grammar)
 
--- every item but the one at the place e can be empty
-abbrev pub OthersEmpty : (ℕ → Bool) → Alternative → ℕ → Type 0
-OthersEmpty nul a e = (k : ℕ) → k < a.count → (k ≢ e) → adds_nothing nul (item_at a k) ≡ true
+-- an item of a draft, as an item of that family
+abbrev pub symbol : Draft → Item → Symbol
+symbol d = item_model (lists_of d.grammar).labels
 
--- the name y is an item, and every other item can be empty
-pub record LeadsTo (nul : ℕ → Bool) (a : Alternative) (y : ℕ) : Type 0 where
-  pub place : ℕ
-  pub inside : place < a.count
-  pub is : item_at a place ≡ Name y
-  pub others : OthersEmpty nul a place
+-- where the answers that Tells gives for alternatives are those of a test p, r is whether some alternative of name y passes p
+abbrev pub TellsOfAny : Draft → ℕ → (Alternative → Bool → Type 0) → Bool → Type 0
+TellsOfAny d y Tells r = (p : List Symbol → Bool) → ((a : Alternative) (b : Bool) → Tells a b → b ≡ p (alternative_model (lists_of d.grammar).labels a)) → r ≡ any p (alternatives (rules_of d) y)
 
--- how many flags are set
-abbrev pub flags_set : List Bool → ℕ
-flags_set [] = 0
-flags_set (b ∷ bs) = cond b 1 0 + flags_set bs
-
--- a sweep over the rules that found n names more: the marks before and after it
-pub record Swept (F : Rules) (before after : List Bool) (n : ℕ) : Type 0 where
-  pub more : flags_set after ≡ flags_set before + n
-  pub within : (P : ℕ → Bool) → Closed F P → ((y : ℕ) → marked before y ≡ true → P y ≡ true) → (y : ℕ) → marked after y ≡ true → P y ≡ true
-  pub closed : n ≡ 0 → Closed F (marked after)
-
--- the flag for two names: row by row, 32 to a row
-abbrev pub pair : List Bool → ℕ → ℕ → Bool
-pair ps x y = slice_index_or ps (x * 32 + y) false
+-- the flag for two names: in the row of the one, at the place of the other
+abbrev pub pair : List (List Bool) → ℕ → ℕ → Bool
+pair rows x y = slice_index_or (slice_index_or rows x []) y false
 
 -- the flags show a relation of names
-abbrev pub Shows : List Bool → (ℕ → ℕ → Bool) → Type 0
-Shows ps R = (x y : ℕ) → x < 32 → y < 32 → pair ps x y ≡ R x y
+abbrev pub Shows : List (List Bool) → (ℕ → ℕ → Bool) → Type 0
+Shows rows R = (x y : ℕ) → x < 32 → y < 32 → pair rows x y ≡ R x y
 
--- how many numbers below n pass the test
-abbrev pub count_below : (ℕ → Bool) → ℕ → ℕ
-count_below p zero = 0
-count_below p (suc n) = count_below p n + cond (p n) 1 0
+-- the pairs of a relation, and those that meet at w
+abbrev pub joined : List (List Bool) → ℕ → ℕ → ℕ → Bool
+joined rows w x y = pair rows x y || (pair rows x w && pair rows w y)
+
+-- none of the first n names is related to itself
+abbrev pub NoCycleBelow : List (List Bool) → ℕ → Type 0
+NoCycleBelow rows n = (k : ℕ) → k < n → pair rows k k ≡ false

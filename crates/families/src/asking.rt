@@ -6,13 +6,6 @@ ghost use Rattle.families.specs.Finds.{Finds};
 use crate::family::Family;
 use files::item::{Alternative, Label, Rule};
 
-// What stands at i, or `other` past the end.
-fn get_or<T: Copy>(xs: &[T], i: usize, other: T) -> T
-    ensures { result ≡ slice_index_or xs.now i other }
-{
-    if i < xs.len() { xs[i] } else { other }
-}
-
 impl Family {
     // How many names there are.
     pub fn names(&self) -> usize
@@ -64,13 +57,13 @@ impl Family {
     pub fn nullable(&self, y: usize) -> bool
         ensures { result ≡ slice_index_or self.now.nullable y false }
     {
-        get_or(&self.nullable, y, false)
+        self.nullable.get(y).copied().unwrap_or(false)
     }
 
     // The rank of name y: it falls along every step.
     pub fn rank(&self, y: usize) -> usize
         ensures { result ≡ slice_index self.now.ranks y }
     {
-        get_or(&self.ranks, y, 0)
+        self.ranks.get(y).copied().unwrap_or(0)
     }
 }

@@ -4,3 +4,5 @@
 pub mod adopting;
 pub mod asking;
 pub mod family;
+mod marks;
+mod relation;
