@@ -1,3 +1,5 @@
+pub mod Tails
 pub mod Walks
 pub mod Pages
+pub mod Texts
 pub mod Draws
