@@ -1,10 +1,12 @@
 // Split orders, drawing by number, and printing.
 #![tactic(auto)]
 
+pub mod choices;
 pub mod choosing;
 pub mod counting;
 pub mod drawing;
 pub mod guard;
+pub mod numbering;
 pub mod order;
 pub mod pending;
 pub mod printing;

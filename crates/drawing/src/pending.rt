@@ -17,8 +17,8 @@ pub struct Pending {
 // The items of an alternative from `slot` on.
 #[derive(Clone, Copy)]
 pub(crate) struct Tail {
-    pub(crate) alternative: Alternative,
-    pub(crate) slot: usize,
+    alternative: Alternative,
+    slot: usize,
 }
 
 impl Pending {
@@ -68,22 +68,24 @@ impl Pending {
 }
 
 impl Tail {
-    // An alternative from its first item on.
-    pub(crate) fn whole(alternative: Alternative) -> Tail {
-        Tail {
-            alternative,
-            slot: 0,
-        }
+    // Whether no item is left.
+    pub(crate) fn is_over(self) -> bool {
+        self.slot >= self.alternative.count
+    }
+
+    // The number of its first item through the whole family.
+    pub(crate) fn item_index(self) -> usize {
+        self.alternative.first.saturating_add(self.slot)
     }
 
     // The item that it begins with; none at its end.
     pub(crate) fn first(self) -> Option<Item>
         ensures { IsSome result → self.slot < 6 }
     {
-        if self.slot < self.alternative.count {
-            self.alternative.items.get(self.slot).copied()
-        } else {
+        if self.is_over() {
             None
+        } else {
+            self.alternative.items.get(self.slot).copied()
         }
     }
 

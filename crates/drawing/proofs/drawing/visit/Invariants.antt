@@ -1,8 +1,14 @@
-use Rattle.std.proofs.Common.{◌≡◌, ◌+◌, ◌-◌, ◌*◌, ◌<◌, ◌≤◌, length, drop}
+use Rattle.std.proofs.Common.{◌≡◌, ◌+◌, ◌-◌, ◌*◌, ◌≤◌, length, drop}
 use Rattle.drawing.proofs.drawing.visit.Given as goal
 
-abbrev pub invariant-loop-height : goal.invariant-loop-height
-invariant-loop-height g l = (l.height < l.written) × (l.written ≤ length l.list) × (drop l.written l.list ≡ drop l.written l.initial.list)
+abbrev pub invariant-loop-pending : goal.invariant-loop-pending
+invariant-loop-pending g l = record {
+  same_list : l.choices.list.ghost_name ≡ l.initial.choices.list.ghost_name;
+  same_places : l.pending.places.ghost_name ≡ l.initial.pending.places.ghost_name;
+  room : length l.choices.list.now ≤ length l.pending.places.now;
+  fewer : l.pending.height ≤ l.choices.written;
+  behind : drop l.choices.written l.choices.list.now ≡ drop l.choices.written l.fn.list;
+}
 
-abbrev pub decreases-loop-height : goal.decreases-loop-height
-decreases-loop-height g l = 16 * (length l.list - l.written) + 8 * l.height + (8 - l.current.slot)
+abbrev pub decreases-loop-pending : goal.decreases-loop-pending
+decreases-loop-pending g l = 16 * (length l.choices.list.now - l.choices.written) + 8 * l.pending.height + (8 - l.current.slot)
