@@ -4,7 +4,6 @@ ghost use Rattle.tables.specs.Tables.{names_open};
 ghost use Rattle.tables.specs.Openings.{count_at};
 ghost use Rattle.drawing.specs.Draws.{Draws, LeftOver};
 
-use crate::choices::Choices;
 use crate::choosing::{Choice, Step};
 use crate::numbering::Numbering;
 use crate::order::SplitOrder;
@@ -23,14 +22,17 @@ fn visit<O: SplitOrder>(
     requires { length list.old ≤ length stack.old }
     ensures { LeftOver result list.old list.new }
 {
-    let mut choices = Choices::new(list);
+    let mut choices = Stack::new(list);
     let mut pending = Stack::new(stack);
-    choices.push(first.number)?;
+    if choices.is_full() {
+        return Err(Fault::ListTooShort);
+    }
+    choices.push(first.number);
     let mut current = first.inside;
     loop {
         match numbering.step(current) {
             None => match pending.pop() {
-                None => return Ok(choices.written),
+                None => return Ok(choices.height),
                 Some(tail) => current = tail,
             },
             Some(Step { choice: None, rest }) => current = rest,
@@ -40,7 +42,10 @@ fn visit<O: SplitOrder>(
                     rest,
                 },
             ) => {
-                choices.push(choice.number)?;
+                if choices.is_full() {
+                    return Err(Fault::ListTooShort);
+                }
+                choices.push(choice.number);
                 pending.push(rest);
                 current = choice.inside;
             }

@@ -1,7 +1,6 @@
 // Split orders, drawing by number, and printing.
 #![tactic(auto)]
 
-pub mod choices;
 pub mod choosing;
 pub mod counting;
 pub mod drawing;

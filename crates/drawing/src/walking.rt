@@ -14,7 +14,7 @@ pub(crate) struct Walk<'w> {
     pub(crate) family: &'w Family,
     name: usize,
     list: &'w [u8],
-    stack: Stack<'w>,
+    stack: Stack<'w, Pending>,
     current: Pending,
     read: usize,
     ghost room: { length list.now ≤ length stack.places.now },
