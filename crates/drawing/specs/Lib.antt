@@ -1,4 +1,5 @@
 pub mod Tails
+pub mod Descents
 pub mod Walks
 pub mod Pages
 pub mod Texts

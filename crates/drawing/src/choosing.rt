@@ -49,6 +49,7 @@ impl<O: SplitOrder> Numbering<'_, O> {
             }
             left -= both;
         }
+        // A number below the tail's count has fallen into a split by now.
         Split {
             size,
             item: 0,
@@ -73,26 +74,28 @@ impl<O: SplitOrder> Numbering<'_, O> {
             }
             left -= count;
         }
+        // A number below the name's count has fallen into an alternative by now.
         Choice {
             number: 0,
             inside: Pending::whole(rule.first, size, 0),
         }
     }
 
-    // Takes the first item off a pending tail, if there is one.
-    pub(crate) fn step(&self, at: Pending) -> Option<Step>
-        ensures { IfSome result (λ s. (at.slot < 6) × (s.rest.slot ≡ at.slot + 1) × IfSome s.choice (λ c. c.inside.slot ≡ 0)) }
+    // Takes the item that a pending tail begins with off it.
+    pub(crate) fn step(&self, at: Pending, item: Item) -> Step
+        requires { at.slot < 6 }
+        ensures rest { result.rest.slot ≡ at.slot + 1 }
+        ensures choice { IfSome result.choice (λ c. c.inside.slot ≡ 0) }
     {
-        let tail = at.tail(self.family);
-        let item = tail.first()?;
-        let split = self.choose_split(item, tail.rest(), at.size, at.number);
+        let after = at.tail(self.family).rest();
+        let split = self.choose_split(item, after, at.size, at.number);
         let choice = match item {
             Item::Name { number } => Some(self.choose(number, split.size, split.item)),
             _ => None,
         };
-        Some(Step {
+        Step {
             choice,
             rest: at.rest(at.size - split.size, split.rest),
-        })
+        }
     }
 }

@@ -4,7 +4,8 @@ ghost use Rattle.tables.specs.Tables.{names_open};
 ghost use Rattle.tables.specs.Openings.{count_at};
 ghost use Rattle.drawing.specs.Draws.{Draws, LeftOver};
 
-use crate::choosing::{Choice, Step};
+use crate::choosing::Choice;
+use crate::descent::Descent;
 use crate::numbering::Numbering;
 use crate::order::SplitOrder;
 use crate::pending::Pending;
@@ -23,34 +24,25 @@ fn visit<O: SplitOrder>(
     ensures { LeftOver result list.old list.new }
 {
     let mut choices = Stack::new(list);
-    let mut pending = Stack::new(stack);
+    let mut descent = Descent::new(numbering.family, first.inside, stack);
     if choices.is_full() {
         return Err(Fault::ListTooShort);
     }
     choices.push(first.number);
-    let mut current = first.inside;
-    loop {
-        match numbering.step(current) {
-            None => match pending.pop() {
-                None => return Ok(choices.height),
-                Some(tail) => current = tail,
-            },
-            Some(Step { choice: None, rest }) => current = rest,
-            Some(
-                Step {
-                    choice: Some(choice),
-                    rest,
-                },
-            ) => {
+    while let Some(item) = descent.next() {
+        let step = numbering.step(descent.current, item);
+        match step.choice {
+            None => descent.current = step.rest,
+            Some(choice) => {
                 if choices.is_full() {
                     return Err(Fault::ListTooShort);
                 }
                 choices.push(choice.number);
-                pending.push(rest);
-                current = choice.inside;
+                descent.enter(choice.inside, step.rest);
             }
         }
     }
+    Ok(choices.height)
 }
 
 // Writes the choice list of the layout of name y and a size that has the number, by the order, and answers its length.

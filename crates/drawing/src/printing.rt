@@ -2,6 +2,7 @@
 ghost use Rattle.std.specs.Prelude.{◌≡◌, ℕ, ◌+◌, ◌<◌, ◌≤◌, false, cond, length, Ok, Err};
 ghost use Rattle.drawing.specs.Pages.{Kept, Prints};
 ghost use Rattle.drawing.specs.Texts.{SameText};
+ghost use Rattle.drawing.specs.Walks.{SamePlaces};
 
 use crate::guard::MarkGuard;
 use crate::pending::Pending;
@@ -13,14 +14,14 @@ use files::item::Item;
 // Puts the literals of the walk's layout on the page, word by word.
 #[tactic(auto, using(crate::proofs::Pages::kept_trans))]
 fn put_words(walk: &mut Walk<'_>, text: &mut MarkGuard<'_>) -> Result<(), Fault>
-    ensures same_reference { walk.new.stack.places.ghost_name ≡ walk.old.stack.places.ghost_name }
-    ensures same { SameText text.old text.new }
+    ensures same_places { SamePlaces walk.old walk.new }
+    ensures same_text { SameText text.old text.new }
     ensures kept { Kept text.old.page.now text.new.page.now text.old.mark.now text.new.mark.now }
 {
     walk.begin()?;
     while let Some(item) = walk.next()? {
         if let Item::Literal { label, .. } = item {
-            text.put_word(walk.family.label(label).text())?;
+            text.put_word(walk.descent.family.label(label).text())?;
         }
     }
     Ok(())

@@ -1,13 +1,12 @@
-use Rattle.std.proofs.Common.{◌≡◌}
 use Rattle.drawing.specs.Pages.{Kept}
 use Rattle.drawing.specs.Texts.{SameText}
-use Rattle.drawing.specs.Walks.{left}
+use Rattle.drawing.specs.Walks.{left, SamePlaces}
 use Rattle.drawing.proofs.printing.put_words.Given as goal
 
 abbrev pub invariant-loop-item : goal.invariant-loop-item
 invariant-loop-item l = record {
-  same_reference : l.walk.stack.places.ghost_name ≡ l.initial.walk.stack.places.ghost_name;
-  same : SameText l.initial.text l.text;
+  same_places : SamePlaces l.initial.walk l.walk;
+  same_text : SameText l.initial.text l.text;
   kept : Kept l.initial.text.page.now l.text.page.now l.initial.text.mark.now l.text.mark.now;
 }
 
