@@ -4,7 +4,7 @@ ghost use Rattle.std.specs.Prelude.{◌≡◌, ◌+◌, ◌*◌, ◌<◌, ◌≤
 use crate::counting::pair;
 use crate::numbering::Numbering;
 use crate::order::SplitOrder;
-use crate::pending::{Pending, Tail};
+use crate::pending::Pending;
 use files::item::Item;
 
 // A split: the item's size and number, and the rest's number.
@@ -30,28 +30,25 @@ pub(crate) struct Step {
 }
 
 impl<O: SplitOrder> Numbering<'_, O> {
-    // The split of an item and what follows it that the number falls into, by the order.
-    fn choose_split(&self, item: Item, rest: Tail, size: usize, number: u64) -> Split
-        ensures { result.size ≤ size }
+    // The split of a pending tail, which begins with the item, that its number falls into, by the order.
+    fn choose_split(&self, at: Pending, item: Item) -> Split
+        ensures { result.size ≤ at.size }
     {
-        let mut left = number;
-        for i in 0..=size {
-            let k = self.order.split(size, i).min(size);
-            let rest_count = self.tail_count(rest, size - k);
-            let both = self.item_count(item, k).saturating_mul(rest_count);
+        let after = at.tail(self.family).rest();
+        let mut left = at.number;
+        for i in 0..=at.size {
+            let size = self.order.split(at.size, i).min(at.size);
+            let count = self.tail_count(after, at.size - size);
+            let both = self.item_count(item, size).saturating_mul(count);
             if left < both {
-                let (item, rest) = pair(left, rest_count);
-                return Split {
-                    size: k,
-                    item,
-                    rest,
-                };
+                let (item, rest) = pair(left, count);
+                return Split { size, item, rest };
             }
             left -= both;
         }
         // A number below the tail's count has fallen into a split by now.
         Split {
-            size,
+            size: at.size,
             item: 0,
             rest: 0,
         }
@@ -87,8 +84,7 @@ impl<O: SplitOrder> Numbering<'_, O> {
         ensures rest { result.rest.slot ≡ at.slot + 1 }
         ensures choice { IfSome result.choice (λ c. c.inside.slot ≡ 0) }
     {
-        let after = at.tail(self.family).rest();
-        let split = self.choose_split(item, after, at.size, at.number);
+        let split = self.choose_split(at, item);
         let choice = match item {
             Item::Name { number } => Some(self.choose(number, split.size, split.item)),
             _ => None,

@@ -1,5 +1,4 @@
 // How layouts are numbered.
-use crate::order::SplitOrder;
 use families::family::Family;
 use tables::open_table::OpenTable;
 
