@@ -17,7 +17,7 @@ pub(crate) struct MarkGuard<'a> {
 }
 
 impl<'a> MarkGuard<'a> {
-    ghost use Rattle.drawing.specs.Texts.{SameText};
+    ghost use Rattle.drawing.specs.Texts.{Continues};
 
     // An empty text at the mark.
     pub(crate) fn new(page: &'a mut [u8], mark: &'a mut usize) -> MarkGuard<'a>
@@ -37,7 +37,7 @@ impl<'a> MarkGuard<'a> {
 
     // Puts the bytes behind the mark and moves the mark past them, or refuses and changes nothing.
     fn put(&mut self, bytes: &[u8]) -> Result<(), Fault>
-        ensures same { SameText self.old self.new }
+        ensures continued { Continues self.old self.new }
         ensures puts { Puts result self.old.page.now self.new.page.now self.old.mark.now self.new.mark.now bytes.now }
     {
         let at = *self.mark;
@@ -52,9 +52,9 @@ impl<'a> MarkGuard<'a> {
     }
 
     // Puts a word behind the text, with a space between; an empty one is left out.
+    #[tactic(auto, using(crate::proofs::Texts::continues_trans))]
     pub(crate) fn put_word(&mut self, word: &[u8]) -> Result<(), Fault>
-        ensures same { SameText self.old self.new }
-        ensures kept { Kept self.old.page.now self.new.page.now self.old.mark.now self.new.mark.now }
+        ensures continued { Continues self.old self.new }
         ensures refused { IfErr result (λ e. e ≡ PageTooShort) }
     {
         if word.is_empty() {

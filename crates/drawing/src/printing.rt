@@ -1,7 +1,7 @@
 // Printing the text of a layout onto a page.
 ghost use Rattle.std.specs.Prelude.{◌≡◌, ℕ, ◌+◌, ◌<◌, ◌≤◌, false, cond, length, Ok, Err};
-ghost use Rattle.drawing.specs.Pages.{Kept, Prints};
-ghost use Rattle.drawing.specs.Texts.{SameText};
+ghost use Rattle.drawing.specs.Pages.{Prints};
+ghost use Rattle.drawing.specs.Texts.{Continues};
 ghost use Rattle.drawing.specs.Walks.{SamePlaces};
 
 use crate::guard::MarkGuard;
@@ -12,11 +12,10 @@ use files::fault::Fault;
 use files::item::Item;
 
 // Puts the literals of the walk's layout on the page, word by word.
-#[tactic(auto, using(crate::proofs::Pages::kept_trans))]
+#[tactic(auto, using(crate::proofs::Texts::continues_trans))]
 fn put_words(walk: &mut Walk<'_>, text: &mut MarkGuard<'_>) -> Result<(), Fault>
-    ensures same_places { SamePlaces walk.old walk.new }
-    ensures same_text { SameText text.old text.new }
-    ensures kept { Kept text.old.page.now text.new.page.now text.old.mark.now text.new.mark.now }
+    ensures same { SamePlaces walk.old walk.new }
+    ensures continued { Continues text.old text.new }
 {
     walk.begin()?;
     while let Some(item) = walk.next()? {

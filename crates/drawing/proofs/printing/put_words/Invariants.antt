@@ -1,13 +1,11 @@
-use Rattle.drawing.specs.Pages.{Kept}
-use Rattle.drawing.specs.Texts.{SameText}
+use Rattle.drawing.specs.Texts.{Continues}
 use Rattle.drawing.specs.Walks.{left, SamePlaces}
 use Rattle.drawing.proofs.printing.put_words.Given as goal
 
 abbrev pub invariant-loop-item : goal.invariant-loop-item
 invariant-loop-item l = record {
-  same_places : SamePlaces l.initial.walk l.walk;
-  same_text : SameText l.initial.text l.text;
-  kept : Kept l.initial.text.page.now l.text.page.now l.initial.text.mark.now l.text.mark.now;
+  same : SamePlaces l.initial.walk l.walk;
+  continued : Continues l.initial.text l.text;
 }
 
 abbrev pub decreases-loop-item : goal.decreases-loop-item
