@@ -31,7 +31,7 @@ impl<'d> Descent<'d> {
     }
 
     // Leaves the tails that are over; the item that comes next, if there is one.
-    pub(crate) fn next(&mut self) -> Option<Item>
+    pub(crate) fn next_item(&mut self) -> Option<Item>
         ensures same_reference { self.new.pending.places.ghost_name ≡ self.old.pending.places.ghost_name }
         ensures same { self.new.pending.places.now ≡ self.old.pending.places.now }
         ensures lower { self.new.pending.height ≤ self.old.pending.height }

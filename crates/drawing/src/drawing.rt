@@ -29,7 +29,7 @@ fn visit<O: SplitOrder>(
         return Err(Fault::ListTooShort);
     }
     choices.push(first.number);
-    while let Some(item) = descent.next() {
+    while let Some(item) = descent.next_item() {
         let step = numbering.step(descent.current, item);
         match step.choice {
             None => descent.current = step.rest,

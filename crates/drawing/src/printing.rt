@@ -18,7 +18,7 @@ fn put_words(walk: &mut Walk<'_>, text: &mut MarkGuard<'_>) -> Result<(), Fault>
     ensures continued { Continues text.old text.new }
 {
     walk.begin()?;
-    while let Some(item) = walk.next()? {
+    while let Some(item) = walk.next_item()? {
         if let Item::Literal { label, .. } = item {
             text.put_word(walk.descent.family.label(label).text())?;
         }

@@ -71,11 +71,11 @@ impl<'w> Walk<'w> {
     }
 
     // The next item, if the layout has one more; where it is a name, the walk goes on inside it.
-    pub(crate) fn next(&mut self) -> Result<Option<Item>, Fault>
+    pub(crate) fn next_item(&mut self) -> Result<Option<Item>, Fault>
         ensures same { SamePlaces self.old self.new }
         ensures onward { IfOk result (λ m. m ≢ None → left self.new < left self.old) }
     {
-        let Some(item) = self.descent.next() else {
+        let Some(item) = self.descent.next_item() else {
             return Ok(None);
         };
         let rest = self.descent.current.rest(0, 0);
@@ -93,7 +93,7 @@ impl<'w> Walk<'w> {
         ensures { SamePlaces self.old self.new }
     {
         self.begin()?;
-        while self.next()?.is_some() {}
+        while self.next_item()?.is_some() {}
         if self.read < self.list.len() {
             return Err(Fault::WrongEnd {
                 place: self.read,

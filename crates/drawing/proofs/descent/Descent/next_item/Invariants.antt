@@ -1,6 +1,6 @@
 use Rattle.std.proofs.Common.{◌≡◌, ◌≤◌}
 use Rattle.drawing.specs.Descents.{left}
-use Rattle.drawing.proofs.descent.Descent.next.Given as goal
+use Rattle.drawing.proofs.descent.Descent.next_item.Given as goal
 
 abbrev pub invariant-loop-item : goal.invariant-loop-item
 invariant-loop-item l = record {
