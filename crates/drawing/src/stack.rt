@@ -1,5 +1,5 @@
 // Stacks on lent places.
-ghost use Rattle.std.specs.Prelude.{◌≡◌, ◌+◌, ◌<◌, ◌≤◌, ◌↔◌, length, slice_get, slice_set, IsTrue, MatchOption};
+ghost use Rattle.std.specs.Prelude.{◌≡◌, ◌+◌, ◌<◌, ◌≤◌, ◌↔◌, length, slice_get, slice_set, IsTrue, IfNone, IfSome};
 
 // The first `height` of the places are taken.
 #[derive(Drop)]
@@ -50,7 +50,8 @@ impl<'s, T: Copy> Stack<'s, T> {
     pub(crate) fn pop(&mut self) -> Option<T>
         ensures same_reference { self.new.places.ghost_name ≡ self.old.places.ghost_name }
         ensures same { self.new.places.now ≡ self.old.places.now }
-        ensures lower { MatchOption result ((self.old.height ≡ 0) × (self.new.height ≡ 0)) (λ x. (self.new.height + 1 ≡ self.old.height) × (slice_get self.old.places.now self.new.height ≡ Some x)) }
+        ensures none { IfNone result ((self.old.height ≡ 0) × (self.new.height ≡ 0)) }
+        ensures some { IfSome result (λ x. (self.new.height + 1 ≡ self.old.height) × (slice_get self.old.places.now self.new.height ≡ Some x)) }
     {
         if self.height == 0 {
             return None;
