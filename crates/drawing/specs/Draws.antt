@@ -1,19 +1,10 @@
 -- What drawing asks, answers and leaves. Assumes nothing.
-use Rattle.std.specs.Prelude.{◌≡◌, ℕ, ◌+◌, ◌<◌, ◌≤◌, cond, List, length, drop, Some, None, Ok, Err, Option, Result, nat_le, nat_lt}
+use Rattle.std.specs.Prelude.{◌≡◌, ℕ, ◌≤◌, cond, List, length, drop, Some, None, Ok, Err, Option, Result, nat_le, nat_lt}
 use Rattle.files.specs.declared.fault.Fault.{Fault}
 use Rattle.files.specs.declared.fault.Fault.TheVariants.{UnknownName, SizeTooLarge, TotalCapped, NumberTooLarge, StackTooShort, ListTooShort}
 use Rattle.tables.specs.Tables.{names_open}
 use Rattle.tables.specs.Openings.{count_at}
 use Rattle.tables.specs.declared.open_table.OpenTable.{OpenTable}
-use Rattle.drawing.specs.declared.pending.Pending.{Pending}
-use Rattle.drawing.specs.declared.drawing.Next.{Next}
-use Rattle.drawing.specs.declared.drawing.Next.TheVariants.{End, Pass, Enter}
-
--- a step of the walk: what follows begins one place further on, what is inside at its beginning
-abbrev pub Asked : Pending → Next → Type 0
-Asked p End = Unit {0}
-Asked p (Pass r) = (p.slot < 6) × (r.slot ≡ p.slot + 1)
-Asked p (Enter c i r) = (p.slot < 6) × (r.slot ≡ p.slot + 1) × (i.slot ≡ 0)
 
 -- the answer tells how many places were written, and those behind are as they were; or the list was too short
 abbrev pub LeftOver : Result ℕ Fault → List ℕ → List ℕ → Type 0

@@ -1,3 +1,6 @@
+pub mod Tails
+pub mod Descents
 pub mod Walks
 pub mod Pages
+pub mod Texts
 pub mod Draws

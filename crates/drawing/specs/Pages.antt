@@ -18,15 +18,6 @@ pub record Kept (p q : List ℕ) (m n : ℕ) : Type 0 where
   pub forward : m ≤ n
   pub within : n ≤ length p
 
-abbrev pub Keeps : Result (Unit {0}) Fault → List ℕ → List ℕ → ℕ → ℕ → Type 0
-Keeps (Ok x) p q m n = m ≤ length p → Kept p q m n
-Keeps (Err e) p q m n = (e ≡ PageTooShort) × (m ≤ length p → Kept p q m n)
-
--- the same of a whole text: a refusal leaves the mark where it was
-abbrev pub Restores : Result (Unit {0}) Fault → List ℕ → List ℕ → ℕ → ℕ → Type 0
-Restores (Ok x) p q m n = Kept p q m n
-Restores (Err e) p q m n = (take m q ≡ take m p) × (n ≡ m)
-
 -- printing a layout of the name y, of `names` that there are, with `places` on the stack
 abbrev pub Prints : Result (Unit {0}) Fault → ℕ → ℕ → List ℕ → ℕ → List ℕ → List ℕ → ℕ → ℕ → Type 0
 Prints (Ok x) names y list places p q m n = (y < names) × (length list ≤ places) × Kept p q m n

@@ -1,12 +1,12 @@
 -- How far a walk along a choice list has come. Assumes nothing.
-use Rattle.std.specs.Prelude.{ℕ, ◌+◌, ◌-◌, ◌*◌, ◌<◌, ◌≤◌}
+use Rattle.std.specs.Prelude.{◌≡◌, ℕ, ◌+◌, ◌-◌, ◌*◌, length}
+use Rattle.drawing.specs.Descents as descents
 use Rattle.drawing.specs.declared.walking.Walk.{Walk}
 
--- h tails are pending after r of n choices: each was left at a choice
-pub record Standing (n h r : ℕ) : Type 0 where
-  pub fewer : h < r
-  pub within : r ≤ n
+-- a bound on the steps to come: each choice that is read leaves one tail more
+abbrev pub left : Walk → ℕ
+left w = 16 * (length w.list.now - w.read) + descents.left w.descent
 
--- a bound on the steps to come, with n choices
-abbrev pub left : ℕ → Walk → ℕ
-left n w = 16 * (n - w.read) + 8 * w.height + (8 - w.current.slot)
+-- the walk v holds the stack that w holds
+abbrev pub SamePlaces : Walk → Walk → Type 0
+SamePlaces w v = v.descent.pending.places.ghost_name ≡ w.descent.pending.places.ghost_name

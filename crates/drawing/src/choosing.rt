@@ -1,84 +1,97 @@
 // Which split and which alternative a number falls into.
-ghost use Rattle.std.specs.Prelude.{◌≡◌, ◌+◌, ◌*◌, ◌<◌, ◌≤◌};
+ghost use Rattle.std.specs.Prelude.{◌≡◌, ◌+◌, ◌*◌, ◌<◌, ◌≤◌, IfSome};
 
-use crate::counting::{item_count, pair, tail_count};
+use crate::counting::pair;
+use crate::numbering::Numbering;
 use crate::order::SplitOrder;
-use families::family::Family;
-use files::item::{Alternative, Rule};
-use tables::open_table::OpenTable;
+use crate::pending::Pending;
+use files::item::Item;
 
 // A split: the item's size and number, and the rest's number.
 #[derive(Clone, Copy)]
-pub(crate) struct Split {
-    pub(crate) size: usize,
-    pub(crate) item: u64,
-    pub(crate) rest: u64,
+struct Split {
+    size: usize,
+    item: u64,
+    rest: u64,
 }
 
-// An alternative by its number among its name's, and a number within it.
+// An alternative by its number among its name's, and as a tail.
 #[derive(Clone, Copy)]
 pub(crate) struct Choice {
-    pub(crate) choice: u8,
-    pub(crate) number: u64,
+    pub(crate) number: u8,
+    pub(crate) inside: Pending,
 }
 
-// The split of the tail at `slot` that the number falls into, by the order.
-pub(crate) fn choose_split<O: SplitOrder>(
-    opened: &OpenTable<'_, '_>,
-    order: &O,
-    alternative: Alternative,
-    slot: usize,
-    size: usize,
-    number: u64,
-) -> Split
-    ensures { result.size ≤ size }
-{
-    let item = alternative.item(slot);
-    let after = slot.saturating_add(1);
-    let mut left = number;
-    for i in 0..size.saturating_add(1) {
-        let k = order.split(size, i).min(size);
-        let rest = tail_count(opened, alternative, after, size - k);
-        let both = item_count(opened, item, k).saturating_mul(rest);
-        if left < both {
-            let (item, rest) = pair(left, rest);
-            return Split {
-                size: k,
-                item,
-                rest,
-            };
-        }
-        left -= both;
-    }
-    Split {
-        size,
-        item: 0,
-        rest: 0,
-    }
+// What a tail begins with: the choice, where that is a name, and what follows.
+#[derive(Clone, Copy)]
+pub(crate) struct Step {
+    pub(crate) choice: Option<Choice>,
+    pub(crate) rest: Pending,
 }
 
-// The alternative of the rule that the number falls into.
-pub(crate) fn choose_alternative(
-    opened: &OpenTable<'_, '_>,
-    family: &Family,
-    rule: Rule,
-    size: usize,
-    number: u64,
-) -> Choice {
-    let mut left = number;
-    for a in 0..rule.count.min(64) {
-        let alternative = family.alternative(rule.first.saturating_add(a));
-        let count = tail_count(opened, alternative, 0, size);
-        if left < count {
-            return Choice {
-                choice: a as u8,
-                number: left,
-            };
+impl<O: SplitOrder> Numbering<'_, O> {
+    // The split of a pending tail, which begins with the item, that its number falls into, by the order.
+    fn choose_split(&self, at: Pending, item: Item) -> Split
+        ensures { result.size ≤ at.size }
+    {
+        let after = at.tail(self.family).rest();
+        let mut left = at.number;
+        for i in 0..=at.size {
+            let size = self.order.split(at.size, i).min(at.size);
+            let count = self.tail_count(after, at.size - size);
+            let both = self.item_count(item, size).saturating_mul(count);
+            if left < both {
+                let (item, rest) = pair(left, count);
+                return Split { size, item, rest };
+            }
+            left -= both;
         }
-        left -= count;
+        // A number below the tail's count has fallen into a split by now.
+        Split {
+            size: at.size,
+            item: 0,
+            rest: 0,
+        }
     }
-    Choice {
-        choice: 0,
-        number: 0,
+
+    // The alternative of name y that the number falls into.
+    pub(crate) fn choose(&self, y: usize, size: usize, number: u64) -> Choice
+        ensures { result.inside.slot ≡ 0 }
+    {
+        let rule = self.family.rule(y);
+        let mut left = number;
+        for a in 0..rule.count.min(64) {
+            let inside = Pending::whole(rule.first.saturating_add(a), size, left);
+            let count = self.tail_count(inside.tail(self.family), size);
+            if left < count {
+                return Choice {
+                    number: a as u8,
+                    inside,
+                };
+            }
+            left -= count;
+        }
+        // A number below the name's count has fallen into an alternative by now.
+        Choice {
+            number: 0,
+            inside: Pending::whole(rule.first, size, 0),
+        }
+    }
+
+    // Takes the item that a pending tail begins with off it.
+    pub(crate) fn step(&self, at: Pending, item: Item) -> Step
+        requires { at.slot < 6 }
+        ensures rest { result.rest.slot ≡ at.slot + 1 }
+        ensures choice { IfSome result.choice (λ c. c.inside.slot ≡ 0) }
+    {
+        let split = self.choose_split(at, item);
+        let choice = match item {
+            Item::Name { number } => Some(self.choose(number, split.size, split.item)),
+            _ => None,
+        };
+        Step {
+            choice,
+            rest: at.rest(at.size - split.size, split.rest),
+        }
     }
 }

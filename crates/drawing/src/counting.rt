@@ -1,8 +1,9 @@
 // The counts that a walk by number goes by.
 ghost use Rattle.std.specs.Prelude.{◌≡◌, ◌+◌, ◌*◌, ◌^◌, ◌<◌, ◌≤◌};
 
-use files::item::{Alternative, Item};
-use tables::open_table::OpenTable;
+use crate::numbering::Numbering;
+use crate::pending::Tail;
+use files::item::Item;
 
 // A number within a split falls into a pair: divided by the rest's count, the quotient is the item's number and the
 // remainder the rest's.
@@ -21,29 +22,23 @@ pub(crate) fn join(item: u64, rest: u64, count: u64) -> u64
     item * count + rest
 }
 
-// How many layouts an item has at a size, up to the cap.
-pub(crate) fn item_count(opened: &OpenTable<'_, '_>, item: Item, size: usize) -> u64 {
-    match item {
-        Item::Name { number } => opened.count(number, size),
-        Item::Literal { size: own, .. } => u64::from(own as usize == size),
-        _ => 0,
+impl<O> Numbering<'_, O> {
+    // How many layouts an item has at a size, up to the cap.
+    pub(crate) fn item_count(&self, item: Item, size: usize) -> u64 {
+        match item {
+            Item::Name { number } => self.opened.count(number, size),
+            Item::Literal { size: own, .. } => u64::from(own as usize == size),
+            _ => 0,
+        }
     }
-}
 
-// How many layouts what begins at `slot` has at a size, up to the cap.
-pub(crate) fn tail_count(
-    opened: &OpenTable<'_, '_>,
-    alternative: Alternative,
-    slot: usize,
-    size: usize,
-) -> u64 {
-    if slot < alternative.count {
-        let row = opened
-            .names()
-            .saturating_add(alternative.first)
-            .saturating_add(slot);
-        opened.count(row, size)
-    } else {
-        u64::from(size == 0)
+    // How many layouts a tail has at a size, up to the cap.
+    pub(crate) fn tail_count(&self, tail: Tail, size: usize) -> u64 {
+        if tail.is_over() {
+            u64::from(size == 0)
+        } else {
+            let row = self.opened.names().saturating_add(tail.item_index());
+            self.opened.count(row, size)
+        }
     }
 }

@@ -2,109 +2,47 @@
 ghost use Rattle.std.specs.Prelude.{◌≡◌, ℕ, ◌+◌, ◌-◌, ◌*◌, ◌<◌, ◌≤◌, false, length};
 ghost use Rattle.tables.specs.Tables.{names_open};
 ghost use Rattle.tables.specs.Openings.{count_at};
-ghost use Rattle.drawing.specs.Draws.{Draws, LeftOver, Asked};
+ghost use Rattle.drawing.specs.Draws.{Draws, LeftOver};
 
-use crate::choosing::{Choice, choose_alternative, choose_split};
+use crate::choosing::Choice;
+use crate::descent::Descent;
+use crate::numbering::Numbering;
 use crate::order::SplitOrder;
 use crate::pending::Pending;
-use families::family::Family;
+use crate::stack::Stack;
 use files::fault::Fault;
-use files::item::Item;
 use tables::open_table::OpenTable;
 
-// What comes next in a tail: its end, what follows a literal, or a choice with what is inside it and what follows.
-#[derive(Clone, Copy)]
-enum Next {
-    End,
-    Pass(Pending),
-    Enter(u8, Pending, Pending),
-}
-
-// The alternative of name y that the number falls into, whole.
-fn enter(
-    opened: &OpenTable<'_, '_>,
-    family: &Family,
-    y: usize,
-    size: usize,
-    number: u64,
-) -> (u8, Pending)
-    ensures { result.1.slot ≡ 0 }
-{
-    let rule = family.rule(y);
-    let chosen = choose_alternative(opened, family, rule, size, number);
-    let alternative = rule.first.saturating_add(usize::from(chosen.choice));
-    (
-        chosen.choice,
-        Pending::whole(alternative, size, chosen.number),
-    )
-}
-
-// Takes the first item off a pending tail.
-fn descend<O: SplitOrder>(
-    opened: &OpenTable<'_, '_>,
-    family: &Family,
-    order: &O,
-    at: Pending,
-) -> Next
-    ensures { Asked at result }
-{
-    let alternative = family.alternative(at.alternative);
-    if at.slot >= alternative.count || at.slot >= 6 {
-        return Next::End;
-    }
-    let split = choose_split(opened, order, alternative, at.slot, at.size, at.number);
-    let rest = at.rest(at.size - split.size, split.rest);
-    match alternative.item(at.slot) {
-        Item::Name { number } => {
-            let (choice, inside) = enter(opened, family, number, split.size, split.item);
-            Next::Enter(choice, inside, rest)
-        }
-        _ => Next::Pass(rest),
-    }
-}
-
-// Writes the choices of the layout whose first choice is `first`, and whose rest is `start`.
+// Writes the choices of the layout that begins with a choice, and answers how many there are.
 fn visit<O: SplitOrder>(
-    opened: &OpenTable<'_, '_>,
-    family: &Family,
-    order: &O,
-    first: u8,
-    start: Pending,
+    numbering: &Numbering<'_, O>,
+    first: Choice,
     list: &mut [u8],
     stack: &mut [Pending],
 ) -> Result<usize, Fault>
     requires { length list.old ≤ length stack.old }
     ensures { LeftOver result list.old list.new }
 {
-    if list.len() == 0 {
+    let mut choices = Stack::new(list);
+    let mut descent = Descent::new(numbering.family, first.inside, stack);
+    if choices.is_full() {
         return Err(Fault::ListTooShort);
     }
-    list[0] = first;
-    let mut written = 1;
-    let mut height = 0;
-    let mut current = start;
-    loop {
-        match descend(opened, family, order, current) {
-            Next::End => {
-                if height == 0 {
-                    return Ok(written);
-                }
-                height -= 1;
-                current = stack[height];
-            }
-            Next::Pass(rest) => current = rest,
-            Next::Enter(choice, inside, rest) => {
-                if written == list.len() {
+    choices.push(first.number);
+    while let Some(item) = descent.next_item() {
+        let step = numbering.step(descent.current, item);
+        match step.choice {
+            None => descent.current = step.rest,
+            Some(choice) => {
+                if choices.is_full() {
                     return Err(Fault::ListTooShort);
                 }
-                list[written] = choice;
-                written += 1;
-                stack[height] = rest;
-                height += 1;
-                current = inside;
+                choices.push(choice.number);
+                descent.enter(choice.inside, step.rest);
             }
         }
     }
+    Ok(choices.height)
 }
 
 // Writes the choice list of the layout of name y and a size that has the number, by the order, and answers its length.
@@ -140,6 +78,11 @@ pub fn draw<O: SplitOrder>(
     if stack.len() < list.len() {
         return Err(Fault::StackTooShort);
     }
-    let (first, start) = enter(opened, family, name, size, number);
-    visit(opened, family, order, first, start, list, stack)
+    let numbering = Numbering {
+        opened,
+        family,
+        order,
+    };
+    let first = numbering.choose(name, size, number);
+    visit(&numbering, first, list, stack)
 }

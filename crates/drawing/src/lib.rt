@@ -1,12 +1,14 @@
 // Split orders, drawing by number, and printing.
 #![tactic(auto)]
 
-pub mod choosing;
-pub mod counting;
+mod choosing;
+mod counting;
+mod descent;
 pub mod drawing;
-pub mod guard;
+mod guard;
+mod numbering;
 pub mod order;
 pub mod pending;
 pub mod printing;
-pub mod stack;
-pub mod walking;
+mod stack;
+mod walking;

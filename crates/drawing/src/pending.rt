@@ -1,5 +1,8 @@
-// What stands on the stack of a walk.
-ghost use Rattle.std.specs.Prelude.{◌≤◌};
+// Tails: what stands on the stack of a walk.
+ghost use Rattle.std.specs.Prelude.{◌≡◌, ◌+◌, ◌<◌, ◌≤◌, IsSome};
+
+use families::family::Family;
+use files::item::{Alternative, Item};
 
 // A tail that is still to be visited: the alternative, the place in it where the tail begins, its size and its number.
 #[derive(Clone, Copy)]
@@ -9,4 +12,88 @@ pub struct Pending {
     pub(crate) size: usize,
     pub(crate) number: u64,
     ghost six: { slot ≤ 6 },
+}
+
+// The items of an alternative from `slot` on.
+#[derive(Clone, Copy)]
+pub(crate) struct Tail {
+    alternative: Alternative,
+    slot: usize,
+}
+
+impl Pending {
+    ghost use Rattle.drawing.specs.Tails.{TailOf};
+
+    // A free place for a stack.
+    pub fn vacant() -> Pending
+        ensures { TailOf result 0 0 0 0 }
+    {
+        Pending::whole(0, 0, 0)
+    }
+
+    // The whole of an alternative.
+    pub(crate) fn whole(alternative: usize, size: usize, number: u64) -> Pending
+        ensures { TailOf result alternative 0 size number }
+    {
+        Pending {
+            alternative,
+            slot: 0,
+            size,
+            number,
+        }
+    }
+
+    // What follows its first item.
+    pub(crate) fn rest(self, size: usize, number: u64) -> Pending
+        requires { self.slot < 6 }
+        ensures { TailOf result self.alternative (self.slot + 1) size number }
+    {
+        Pending {
+            alternative: self.alternative,
+            slot: self.slot + 1,
+            size,
+            number,
+        }
+    }
+
+    // Its items, in the family.
+    pub(crate) fn tail(self, family: &Family) -> Tail
+        ensures { result.slot ≡ self.slot }
+    {
+        Tail {
+            alternative: family.alternative(self.alternative),
+            slot: self.slot,
+        }
+    }
+}
+
+impl Tail {
+    // Whether no item is left.
+    pub(crate) fn is_over(self) -> bool {
+        self.slot >= self.alternative.count
+    }
+
+    // The number of its first item through the whole family.
+    pub(crate) fn item_index(self) -> usize {
+        self.alternative.first.saturating_add(self.slot)
+    }
+
+    // The item that it begins with; none at its end.
+    pub(crate) fn first(self) -> Option<Item>
+        ensures { IsSome result → self.slot < 6 }
+    {
+        if self.is_over() {
+            None
+        } else {
+            self.alternative.items.get(self.slot).copied()
+        }
+    }
+
+    // What follows its first item.
+    pub(crate) fn rest(self) -> Tail {
+        Tail {
+            alternative: self.alternative,
+            slot: self.slot.saturating_add(1),
+        }
+    }
 }

@@ -1,42 +1,29 @@
 // Printing the text of a layout onto a page.
 ghost use Rattle.std.specs.Prelude.{◌≡◌, ℕ, ◌+◌, ◌<◌, ◌≤◌, false, cond, length, Ok, Err};
-ghost use Rattle.drawing.specs.Pages.{written, Puts, Keeps, Restores, Prints};
+ghost use Rattle.drawing.specs.Pages.{Prints};
+ghost use Rattle.drawing.specs.Texts.{Continues};
+ghost use Rattle.drawing.specs.Walks.{SamePlaces};
 
 use crate::guard::MarkGuard;
 use crate::pending::Pending;
-use crate::walking::{Met, Walk, check};
+use crate::walking::Walk;
 use families::family::Family;
 use files::fault::Fault;
+use files::item::Item;
 
-// Puts the text behind the mark and moves the mark past it, or refuses and changes nothing.
-fn put(page: &mut [u8], mark: &mut usize, text: &[u8]) -> Result<(), Fault>
-    ensures { Puts result page.old page.new mark.old mark.new text.now }
+// Puts the literals of the walk's layout on the page, word by word.
+#[tactic(auto, using(crate::proofs::Texts::continues_trans))]
+fn put_words(walk: &mut Walk<'_>, text: &mut MarkGuard<'_>) -> Result<(), Fault>
+    ensures same { SamePlaces walk.old walk.new }
+    ensures continued { Continues text.old text.new }
 {
-    let at = *mark;
-    let size = text.len();
-    if at > page.len() {
-        return Err(Fault::PageTooShort);
+    walk.begin()?;
+    while let Some(item) = walk.next_item()? {
+        if let Item::Literal { label, .. } = item {
+            text.put_word(walk.descent.family.label(label).text())?;
+        }
     }
-    if size > page.len() - at {
-        return Err(Fault::PageTooShort);
-    }
-    let end = at + size;
-    page[at..end].copy_from_slice(text);
-    *mark = end;
     Ok(())
-}
-
-// Puts a word behind what was put since `start`, with a space between; an empty one is left out.
-fn put_word(page: &mut [u8], mark: &mut usize, start: usize, text: &[u8]) -> Result<(), Fault>
-    ensures { Keeps result page.old page.new mark.old mark.new }
-{
-    if text.is_empty() {
-        return Ok(());
-    }
-    if *mark != start {
-        put(page, mark, b" ")?;
-    }
-    put(page, mark, text)
 }
 
 // Prints the text of the layout of name y that the list tells behind the page's mark, and moves the mark past it.
@@ -57,45 +44,13 @@ pub fn print(
     if stack.len() < list.len() {
         return Err(Fault::StackTooShort);
     }
-    check(family, name, list, stack)?;
+    let mut walk = Walk::new(family, name, list, stack);
+    walk.check()?;
     if *mark > page.len() {
         return Err(Fault::PageTooShort);
     }
-    print_checked(family, name, list, stack, page, mark)
-}
-
-// The same where the list is checked.
-fn print_checked(
-    family: &Family,
-    name: usize,
-    list: &[u8],
-    stack: &mut [Pending],
-    page: &mut [u8],
-    mark: &mut usize,
-) -> Result<(), Fault>
-    requires room { length list.now ≤ length stack.old }
-    requires within { mark.old ≤ length page.old }
-    ensures { Restores result page.old page.new mark.old mark.new }
-{
-    let start = *mark;
-    let mut guard = MarkGuard {
-        mark,
-        start,
-        finished: false,
-    };
-    let mut walk = Walk::begin(family, name, list)?;
-    loop {
-        match walk.advance(family, list, stack)? {
-            Met::Over => break,
-            Met::Literal { label } => put_word(
-                page,
-                guard.mark,
-                start,
-                family.label(label).text(),
-            )?,
-            Met::Name => {}
-        }
-    }
-    guard.finished = true;
+    let mut text = MarkGuard::new(page, mark);
+    put_words(&mut walk, &mut text)?;
+    text.finished = true;
     Ok(())
 }

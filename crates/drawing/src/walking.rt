@@ -1,124 +1,105 @@
 // Walking along a choice list: the layout that it tells, item by item.
 ghost use Rattle.std.specs.Prelude.{◌≡◌, ℕ, ◌+◌, ◌-◌, ◌*◌, ◌<◌, ◌≤◌, length, IfOk, ◌≢◌};
-ghost use Rattle.drawing.specs.Walks.{left, Standing};
 
+use crate::descent::Descent;
 use crate::pending::Pending;
 use families::family::Family;
 use files::fault::Fault;
 use files::item::Item;
 
-// Where a walk stands: in the tail `current`, with `height` tails pending and `read` choices read.
-#[derive(Clone, Copy)]
-pub(crate) struct Walk {
-    pub(crate) current: Pending,
-    pub(crate) height: usize,
-    pub(crate) read: usize,
+// A walk along the layout of `name` that the list tells, with `read` choices read. Each pending tail was left at one.
+#[derive(Drop)]
+pub(crate) struct Walk<'w> {
+    name: usize,
+    list: &'w [u8],
+    pub(crate) descent: Descent<'w>,
+    read: usize,
+    ghost room: { length list.now ≤ length descent.pending.places.now },
+    ghost within: { read ≤ length list.now },
+    ghost fewer: { descent.pending.height ≤ read },
 }
 
-// What a walk met: the end of the layout, a literal by its label, or a name.
-#[derive(Clone, Copy)]
-pub(crate) enum Met {
-    Over,
-    Literal { label: usize },
-    Name,
-}
+impl<'w> Walk<'w> {
+    ghost use Rattle.drawing.specs.Walks.{left, SamePlaces};
 
-// The alternative of name y that the next choice names.
-fn chosen(family: &Family, y: usize, list: &[u8], read: usize) -> Result<Pending, Fault>
-    requires { read ≤ length list.now }
-    ensures { IfOk result (λ p. (read < length list.now) × (p.slot ≡ 0)) }
-{
-    if read >= list.len() {
-        return Err(Fault::WrongEnd {
-            place: list.len(),
-            length: 0,
-        });
-    }
-    let choice = usize::from(list[read]);
-    let rule = family.rule(y);
-    if choice >= rule.count {
-        return Err(Fault::UnknownChoice { place: read });
-    }
-    Ok(Pending::whole(rule.first.saturating_add(choice), 0, 0))
-}
-
-impl Walk {
-    // At the beginning of the layout of name y that the list tells.
-    pub(crate) fn begin(family: &Family, y: usize, list: &[u8]) -> Result<Walk, Fault>
-        ensures { IfOk result (λ w. Standing (length list.now) w.height w.read) }
+    // Before the first choice.
+    pub(crate) fn new(
+        family: &'w Family,
+        name: usize,
+        list: &'w [u8],
+        places: &'w mut [Pending],
+    ) -> Walk<'w>
+        requires { length list.now ≤ length places.old }
+        ensures { result.descent.pending.places.ghost_name ≡ places.entry.ghost_name }
     {
-        let current = chosen(family, y, list, 0)?;
-        Ok(Walk {
-            current,
-            height: 0,
-            read: 1,
-        })
+        Walk {
+            name,
+            list,
+            descent: Descent::new(family, Pending::vacant(), places),
+            read: 0,
+        }
     }
 
-    // Goes one item on.
-    pub(crate) fn advance(
-        &mut self,
-        family: &Family,
-        list: &[u8],
-        stack: &mut [Pending],
-    ) -> Result<Met, Fault>
-        requires room { length list.now ≤ length stack.old }
-        requires standing { Standing (length list.now) self.old.height self.old.read }
-        ensures standing { Standing (length list.now) self.new.height self.new.read }
-        ensures onward { IfOk result (λ m. (m ≢ Met.Over) → left (length list.now) self.new < left (length list.now) self.old) }
+    // Goes to the beginning of the layout.
+    pub(crate) fn begin(&mut self) -> Result<(), Fault>
+        ensures { SamePlaces self.old self.new }
     {
-        let at = self.current;
-        let alternative = family.alternative(at.alternative);
-        if at.slot >= alternative.count || at.slot >= 6 {
-            if self.height == 0 {
-                return Ok(Met::Over);
-            }
-            self.height -= 1;
-            self.current = stack[self.height];
-            return Ok(Met::Name);
-        }
-        match alternative.item(at.slot) {
-            Item::Name { number } => {
-                let inside = chosen(family, number, list, self.read)?;
-                stack[self.height] = at.rest(0, 0);
-                self.height += 1;
-                self.read += 1;
-                self.current = inside;
-                Ok(Met::Name)
-            }
-            Item::Literal { label, .. } => {
-                self.current = at.rest(0, 0);
-                Ok(Met::Literal { label })
-            }
-            _ => {
-                self.current = at.rest(0, 0);
-                Ok(Met::Name)
-            }
-        }
+        self.read = 0;
+        self.descent.pending.clear();
+        self.descent.current = self.choose(self.name)?;
+        Ok(())
     }
-}
 
-// Whether the list tells a layout of name y, and ends where it does.
-pub(crate) fn check(
-    family: &Family,
-    y: usize,
-    list: &[u8],
-    stack: &mut [Pending],
-) -> Result<(), Fault>
-    requires { length list.now ≤ length stack.old }
-{
-    let mut walk = Walk::begin(family, y, list)?;
-    loop {
-        match walk.advance(family, list, stack)? {
-            Met::Over => break,
-            _ => {}
+    // Reads a choice of name y: the alternative that it names.
+    fn choose(&mut self, y: usize) -> Result<Pending, Fault>
+        ensures same { (self.new.descent ≡ self.old.descent) × (self.new.list ≡ self.old.list) }
+        ensures chosen { IfOk result (λ p. (self.new.read ≡ self.old.read + 1) × (p.slot ≡ 0)) }
+    {
+        let Some(choice) = self.list.get(self.read) else {
+            return Err(Fault::WrongEnd {
+                place: self.list.len(),
+                length: 0,
+            });
+        };
+        let choice = usize::from(*choice);
+        let rule = self.descent.family.rule(y);
+        if choice >= rule.count {
+            return Err(Fault::UnknownChoice { place: self.read });
         }
+        self.read += 1;
+        Ok(Pending::whole(rule.first.saturating_add(choice), 0, 0))
     }
-    if walk.read < list.len() {
-        return Err(Fault::WrongEnd {
-            place: walk.read,
-            length: 1,
-        });
+
+    // The next item, if the layout has one more; where it is a name, the walk goes on inside it.
+    pub(crate) fn next_item(&mut self) -> Result<Option<Item>, Fault>
+        ensures same { SamePlaces self.old self.new }
+        ensures onward { IfOk result (λ m. m ≢ None → left self.new < left self.old) }
+    {
+        let Some(item) = self.descent.next_item() else {
+            return Ok(None);
+        };
+        let rest = self.descent.current.rest(0, 0);
+        if let Item::Name { number } = item {
+            let inside = self.choose(number)?;
+            self.descent.enter(inside, rest);
+        } else {
+            self.descent.current = rest;
+        }
+        Ok(Some(item))
     }
-    Ok(())
+
+    // Whether the list tells a layout, and ends where it does.
+    pub(crate) fn check(&mut self) -> Result<(), Fault>
+        ensures { SamePlaces self.old self.new }
+    {
+        self.begin()?;
+        while self.next_item()?.is_some() {}
+        if self.read < self.list.len() {
+            return Err(Fault::WrongEnd {
+                place: self.read,
+                length: 1,
+            });
+        }
+        Ok(())
+    }
 }
