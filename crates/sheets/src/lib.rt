@@ -4,7 +4,7 @@
 mod asked;
 pub mod layout_sheet;
 pub mod lines;
-pub mod request;
+mod request;
 mod sheet;
-pub mod stop;
+mod stop;
 pub mod total_sheet;

@@ -10,7 +10,7 @@ use tables::cheapest::Cheapest;
 use tables::count::Count;
 use tables::kind::WeightKind;
 
-// The lines of one kind, from a table of that kind.
+// The lines of one kind, from a table of that kind: the names' rows come first, with an entry for each size.
 fn write_kind<K: WeightKind, W: Write>(
     out: &mut W,
     asked: &Asked<'_>,
