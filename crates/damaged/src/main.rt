@@ -122,14 +122,11 @@ impl<W: Write> Sheet<W> {
     }
 }
 
-fn run(rt: &HostRuntime) -> io::Result<()> {
+fn main(rt: HostRuntime) -> io::Result<()> {
     let heap = rt.alloc();
     let input = io::read_to_string(heap, rt.stdin())?;
     let out = BufWriter::new(heap, rt.stdout())?;
     let family = Family::new(heap).map_err(out_of_memory)?;
-    Sheet { out, family, heap }.write_all(&input)
-}
-
-fn main(rt: HostRuntime) -> io::Result<()> {
-    run(&rt)
+    let mut sheet = Sheet { out, family, heap };
+    sheet.write_all(&input)
 }
