@@ -58,7 +58,7 @@ fn damaged_tables_stay_shut(rt: HostRuntime) -> Result<(), Fail> {
     assert!(rt; bad.len() == 50);
     bad[23] = Count { value: 9 };
     bad[31] = Count { value: 9 };
-    stays_open(&rt, heap, &family, &good, &bad)
+    stays_open(&rt, &family, &good, &bad)
 }
 
 // An item's entry is damaged, and the entries of names above it are changed to match: the lower index is answered,
@@ -76,13 +76,12 @@ fn matching_damage_is_found_at_the_name(rt: HostRuntime) -> Result<(), Fail> {
 }
 
 fn stays_open(
-    rt: &impl Abort,
-    heap: Global,
+    rt: &(impl Abort + AllocGlobal),
     family: &Family,
     good: &[Count],
     bad: &[Count],
 ) -> Result<(), Fail> {
-    let mut opened = opened(heap, family, good, 4)?;
+    let mut opened = opened(rt.alloc(), family, good, 4)?;
     refused(rt, opened.open(family, bad, 4), 14, 23, 1)?;
     refused(rt, opened.open(family, good, 41), 12, 0, 0)?;
     refused(rt, opened.open(family, good, 5), 13, 0, 0)?;
