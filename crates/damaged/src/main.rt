@@ -8,12 +8,10 @@
 // `stdout` is made by another program, from the documents alone: tools/expect_damage.py.
 #![tactic(auto)]
 
-ghost use Rattle.std.specs.Prelude.{◌≤◌, length};
-
 mod damage;
 mod edit;
 
-use damage::damaged;
+use damage::Spot;
 use edit::{EDITS, Edit};
 use families::family::Family;
 use files::draft::Draft;
@@ -22,11 +20,9 @@ use std::alloc::Global;
 use std::io;
 use std::io::{BufWriter, Write};
 
-// A family file of the input, and its number there.
-#[derive(Clone, Copy)]
-struct Base<'a> {
-    number: usize,
-    file: &'a [u8],
+// What the program reports where memory fails.
+fn out_of_memory(_fault: Fault) -> io::Error {
+    io::Error::from(io::ErrorKind::OutOfMemory)
 }
 
 // Where the lines go. One family serves all files: it is written or left as it was.
@@ -66,7 +62,7 @@ impl<W: Write> Sheet<W> {
     // The values of a refusal. Want of memory is none: it ends the program.
     fn write_refused(&mut self, fault: Fault) -> io::Result<()> {
         if let Fault::OutOfMemory = fault {
-            return Err(io::Error::from(io::ErrorKind::OutOfMemory));
+            return Err(out_of_memory(fault));
         }
         let number = fault.number();
         let place = fault.place();
@@ -75,11 +71,9 @@ impl<W: Write> Sheet<W> {
     }
 
     // The line of one edit.
-    fn write_case(&mut self, base: Base<'_>, place: usize, edit: Edit) -> io::Result<()>
-        requires { place ≤ length base.file.now }
-    {
-        let file = damaged(self.heap, base.file, place, edit)?;
-        write!(self.out, "{} {place} {edit} ", base.number)?;
+    fn write_case(&mut self, spot: Spot<'_>, edit: Edit) -> io::Result<()> {
+        let file = spot.damaged(self.heap, edit)?;
+        write!(self.out, "{} {} {edit} ", spot.number, spot.place)?;
         match self.adopt(&file) {
             Ok(()) => self.write_adopted(),
             Err(fault) => self.write_refused(fault),
@@ -87,20 +81,30 @@ impl<W: Write> Sheet<W> {
     }
 
     // The lines of all edits at a place.
-    fn write_place(&mut self, base: Base<'_>, place: usize) -> io::Result<()>
-        requires { place ≤ length base.file.now }
-    {
+    fn write_place(&mut self, spot: Spot<'_>) -> io::Result<()> {
         for edit in EDITS {
-            self.write_case(base, place, edit)?;
+            self.write_case(spot, edit)?;
         }
         Ok(())
     }
 
     // The lines of a file: undamaged, and damaged in each place.
-    fn write_base(&mut self, base: Base<'_>) -> io::Result<()> {
-        self.write_case(base, 0, Edit::Whole)?;
-        for place in 0..base.file.len() {
-            self.write_place(base, place)?;
+    fn write_file(&mut self, number: usize, file: &[u8]) -> io::Result<()> {
+        let place = 0;
+        self.write_case(
+            Spot {
+                number,
+                file,
+                place,
+            },
+            Edit::Whole,
+        )?;
+        for place in 0..file.len() {
+            self.write_place(Spot {
+                number,
+                file,
+                place,
+            })?;
         }
         Ok(())
     }
@@ -112,23 +116,17 @@ impl<W: Write> Sheet<W> {
             "file place edit byte refused at length names items empty"
         )?;
         for (number, line) in input.lines().enumerate() {
-            let file = line.as_bytes();
-            self.write_base(Base { number, file })?;
+            self.write_file(number, line.as_bytes())?;
         }
         self.out.flush()
     }
 }
 
-fn run(rt: &HostRuntime) -> io::Result<()> {
+fn main(rt: HostRuntime) -> io::Result<()> {
     let heap = rt.alloc();
     let input = io::read_to_string(heap, rt.stdin())?;
     let out = BufWriter::new(heap, rt.stdout())?;
-    let Ok(family) = Family::new(heap) else {
-        return Err(io::Error::from(io::ErrorKind::OutOfMemory));
-    };
-    Sheet { out, family, heap }.write_all(&input)
-}
-
-fn main(rt: HostRuntime) -> io::Result<()> {
-    run(&rt)
+    let family = Family::new(heap).map_err(out_of_memory)?;
+    let mut sheet = Sheet { out, family, heap };
+    sheet.write_all(&input)
 }

@@ -1,12 +1,9 @@
 // Totals of families whose counts are published sequences, up to size 40 or the cap.
 use crate::support::*;
-use std::alloc::Global;
 use std::process::Abort;
 use std::test::Fail;
 use tables::count::Count;
 use tables::filling::fill;
-use tables::open_table::OpenTable;
-use tables::scratch::Scratch;
 
 // Catalan numbers, A000108: binary trees by inner nodes.
 const CATALAN: [u64; 41] = [
@@ -192,12 +189,12 @@ const COMPOSITIONS: [u64; 41] = [
 ];
 
 // That the first name's counts are these.
-fn counted(rt: &impl Abort, heap: Global, file: &[u8], sequence: &[u64]) -> Result<(), Fail> {
+fn counted(rt: &(impl Abort + AllocGlobal), file: &[u8], sequence: &[u64]) -> Result<(), Fail> {
+    let heap = rt.alloc();
     let family = granted(family_of(heap, file))?;
     let mut table = Vec::from_elem(heap, Count { value: 5 }, 6560)?;
     granted(fill(&family, &mut table, 40))?;
-    let mut opened = OpenTable::new(granted(Scratch::new(heap))?);
-    granted(opened.open(&family, &table, 40))?;
+    let opened = opened(heap, &family, &table, 40)?;
     for (n, count) in sequence.iter().enumerate() {
         assert_eq!(rt; opened.count(0, n), *count);
     }
@@ -206,34 +203,24 @@ fn counted(rt: &impl Abort, heap: Global, file: &[u8], sequence: &[u64]) -> Resu
 
 #[test]
 fn published_sequences(rt: HostRuntime) -> Result<(), Fail> {
-    let heap = rt.alloc();
+    counted(&rt, b"tree = \"leaf\":0 | \"node\" tree tree ;", &CATALAN)?;
     counted(
         &rt,
-        heap,
-        b"tree = \"leaf\":0 | \"node\" tree tree ;",
-        &CATALAN,
-    )?;
-    counted(
-        &rt,
-        heap,
         b"path = | \"flat\" path | \"up\" path \"down\" path ;",
         &MOTZKIN,
     )?;
     counted(
         &rt,
-        heap,
         b"path = | \"flat\" path | \"up\" path \"down\":0 path ;",
         &SCHROEDER,
     )?;
     counted(
         &rt,
-        heap,
         b"row = | \"square\" row | \"domino\":2 row ;",
         &FIBONACCI,
     )?;
     counted(
         &rt,
-        heap,
         b"sum = | part sum ; part = \"one\" | \"one\" part ;",
         &COMPOSITIONS,
     )

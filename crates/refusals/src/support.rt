@@ -5,6 +5,9 @@ use files::fault::Fault;
 use std::alloc::{AllocError, Global};
 use std::process::Abort;
 use std::test::Fail;
+use tables::count::Count;
+use tables::open_table::OpenTable;
+use tables::scratch::Scratch;
 
 // The worked family.
 pub(crate) const WORKED: &[u8; 78] =
@@ -19,11 +22,8 @@ pub(crate) fn family_of(heap: Global, file: &[u8]) -> Result<Family, Fault> {
 }
 
 // What a call answered, where it was not refused.
-pub(crate) fn granted<T>(answer: Result<T, Fault>) -> Result<T, Fail> {
-    match answer {
-        Ok(value) => Ok(value),
-        Err(_) => Err(Fail::new("refused")),
-    }
+pub(crate) fn granted<T: Drop>(answer: Result<T, Fault>) -> Result<T, Fail> {
+    answer.map_err(|_| Fail::new("refused"))
 }
 
 // That a call was refused with this number, place and length.
@@ -34,9 +34,7 @@ pub(crate) fn refused<T: Drop>(
     place: usize,
     length: usize,
 ) -> Result<(), Fail> {
-    let Err(fault) = answer else {
-        return Err(Fail::new("not refused"));
-    };
+    let fault = answer.err().ok_or_else(|| Fail::new("not refused"))?;
     assert_eq!(rt; fault.number(), number);
     assert_eq!(rt; fault.place(), place);
     assert_eq!(rt; fault.length(), length);
@@ -45,19 +43,35 @@ pub(crate) fn refused<T: Drop>(
 
 // That reading and adopting a file is refused so.
 pub(crate) fn file_refused(
-    rt: &impl Abort,
-    heap: Global,
+    rt: &(impl Abort + AllocGlobal),
     file: &[u8],
     number: u8,
     place: usize,
     length: usize,
 ) -> Result<(), Fail> {
-    refused(rt, family_of(heap, file), number, place, length)
+    refused(rt, family_of(rt.alloc(), file), number, place, length)
 }
 
 // That a file is adopted.
-pub(crate) fn file_adopted(rt: &impl Abort, heap: Global, file: &[u8]) {
-    assert!(rt; family_of(heap, file).is_ok());
+pub(crate) fn file_adopted(rt: &(impl Abort + AllocGlobal), file: &[u8]) {
+    assert!(rt; family_of(rt.alloc(), file).is_ok());
+}
+
+// A place for tables to be opened in.
+pub(crate) fn unopened<'a>(heap: Global) -> Result<OpenTable<'a, 'a>, Fail> {
+    Ok(OpenTable::new(granted(Scratch::new(heap))?))
+}
+
+// The family's table, opened.
+pub(crate) fn opened<'a>(
+    heap: Global,
+    family: &'a Family,
+    table: &'a [Count],
+    top: usize,
+) -> Result<OpenTable<'a, 'a>, Fail> {
+    let mut opened = unopened(heap)?;
+    granted(opened.open(family, table, top))?;
+    Ok(opened)
 }
 
 // `piece` `times` times between a head and a tail.

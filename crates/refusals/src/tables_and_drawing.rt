@@ -11,11 +11,16 @@ use std::test::Fail;
 use tables::cheapest::Cheapest;
 use tables::count::Count;
 use tables::filling::fill;
-use tables::open_table::OpenTable;
-use tables::scratch::Scratch;
 
 fn counts(heap: Global, length: usize) -> Result<Vec<Count>, Fail> {
     Ok(Vec::from_elem(heap, Count { value: 7 }, length)?)
+}
+
+// A table of that length, filled for the family.
+fn filled(heap: Global, family: &Family, length: usize, top: usize) -> Result<Vec<Count>, Fail> {
+    let mut table = counts(heap, length)?;
+    granted(fill(family, &mut table, top))?;
+    Ok(table)
 }
 
 // 50 entries for the worked family at top 4.
@@ -26,8 +31,7 @@ fn tables_have_room(rt: HostRuntime) -> Result<(), Fail> {
     let mut short = counts(heap, 49)?;
     refused(&rt, fill(&family, &mut short, 4), 13, 0, 0)?;
     assert!(rt; short.len() == 49 && short[0].value == 7 && short[48].value == 7);
-    let mut long = counts(heap, 51)?;
-    granted(fill(&family, &mut long, 4))?;
+    let mut long = filled(heap, &family, 51, 4)?;
     assert!(rt;
         long.len() == 51 && long[4].value == 5 && long[14].value == 10 && long[50].value == 7
     );
@@ -49,14 +53,12 @@ fn cheapest_totals(rt: HostRuntime) -> Result<(), Fail> {
 fn damaged_tables_stay_shut(rt: HostRuntime) -> Result<(), Fail> {
     let heap = rt.alloc();
     let family = granted(family_of(heap, WORKED))?;
-    let mut good = counts(heap, 50)?;
-    granted(fill(&family, &mut good, 4))?;
-    let mut bad = counts(heap, 50)?;
-    granted(fill(&family, &mut bad, 4))?;
+    let good = filled(heap, &family, 50, 4)?;
+    let mut bad = filled(heap, &family, 50, 4)?;
     assert!(rt; bad.len() == 50);
     bad[23] = Count { value: 9 };
     bad[31] = Count { value: 9 };
-    stays_open(&rt, heap, &family, &good, &bad)
+    stays_open(&rt, &family, &good, &bad)
 }
 
 // An item's entry is damaged, and the entries of names above it are changed to match: the lower index is answered,
@@ -65,24 +67,21 @@ fn damaged_tables_stay_shut(rt: HostRuntime) -> Result<(), Fail> {
 fn matching_damage_is_found_at_the_name(rt: HostRuntime) -> Result<(), Fail> {
     let heap = rt.alloc();
     let family = granted(family_of(heap, b"a = \"p\" | \"q\" ;"))?;
-    let mut table = counts(heap, 6)?;
-    granted(fill(&family, &mut table, 1))?;
+    let mut table = filled(heap, &family, 6, 1)?;
     assert!(rt; table.len() == 6 && table[1].value == 2 && table[3].value == 1);
     table[3] = Count { value: 4 };
     table[1] = Count { value: 5 };
-    let mut opened = OpenTable::new(granted(Scratch::new(heap))?);
+    let mut opened = unopened(heap)?;
     refused(&rt, opened.open(&family, &table, 1), 14, 1, 1)
 }
 
 fn stays_open(
-    rt: &impl Abort,
-    heap: Global,
+    rt: &(impl Abort + AllocGlobal),
     family: &Family,
     good: &[Count],
     bad: &[Count],
 ) -> Result<(), Fail> {
-    let mut opened = OpenTable::new(granted(Scratch::new(heap))?);
-    granted(opened.open(family, good, 4))?;
+    let mut opened = opened(rt.alloc(), family, good, 4)?;
     refused(rt, opened.open(family, bad, 4), 14, 23, 1)?;
     refused(rt, opened.open(family, good, 41), 12, 0, 0)?;
     refused(rt, opened.open(family, good, 5), 13, 0, 0)?;
@@ -93,7 +92,7 @@ fn stays_open(
 
 #[test]
 fn an_unwritten_open_table_has_no_names(rt: HostRuntime) -> Result<(), Fail> {
-    let opened = OpenTable::new(granted(Scratch::new(rt.alloc()))?);
+    let opened = unopened(rt.alloc())?;
     assert_eq!(rt; opened.names(), 0);
     refused(
         &rt,
@@ -114,21 +113,17 @@ fn an_unwritten_open_table_has_no_names(rt: HostRuntime) -> Result<(), Fail> {
 
 // The choices that a draw wrote, as a number in base 8, for short lists.
 fn packed(list: &[u8], count: usize) -> u64 {
-    let mut value = 0u64;
-    for choice in list.iter().take(count) {
-        value = value.saturating_mul(8).saturating_add(u64::from(*choice));
-    }
-    value
+    list.iter().take(count).fold(0, |value: u64, choice| {
+        value.saturating_mul(8).saturating_add(u64::from(*choice))
+    })
 }
 
 #[test]
 fn numbers_draw_their_layouts(rt: HostRuntime) -> Result<(), Fail> {
     let heap = rt.alloc();
     let family = granted(family_of(heap, WORKED))?;
-    let mut table = counts(heap, 50)?;
-    granted(fill(&family, &mut table, 4))?;
-    let mut opened = OpenTable::new(granted(Scratch::new(heap))?);
-    granted(opened.open(&family, &table, 4))?;
+    let table = filled(heap, &family, 50, 4)?;
+    let opened = opened(heap, &family, &table, 4)?;
     let mut list = [9u8; 12];
     let mut stack = [Pending::vacant(); 12];
     assert_eq!(rt;
@@ -149,12 +144,10 @@ fn numbers_draw_their_layouts(rt: HostRuntime) -> Result<(), Fail> {
 fn draws_are_refused_in_order(rt: HostRuntime) -> Result<(), Fail> {
     let heap = rt.alloc();
     let family = granted(family_of(heap, WORKED))?;
-    let mut table = counts(heap, 50)?;
-    granted(fill(&family, &mut table, 4))?;
-    let mut opened = OpenTable::new(granted(Scratch::new(heap))?);
+    let table = filled(heap, &family, 50, 4)?;
+    let opened = opened(heap, &family, &table, 4)?;
     let mut list = [9u8; 3];
     let mut stack = [Pending::vacant(); 3];
-    granted(opened.open(&family, &table, 4))?;
     refused(
         &rt,
         draw(&opened, &Rising, 3, 5, 9, &mut list, &mut stack),
@@ -211,10 +204,8 @@ fn capped_totals_are_not_drawn(rt: HostRuntime) -> Result<(), Fail> {
         heap,
         b"a = b b b b b b ; b = c c ; c = d d d ; d = e | e | e | e ; e = ;",
     ))?;
-    let mut table = counts(heap, 40)?;
-    granted(fill(&family, &mut table, 0))?;
-    let mut opened = OpenTable::new(granted(Scratch::new(heap))?);
-    granted(opened.open(&family, &table, 0))?;
+    let table = filled(heap, &family, 40, 0)?;
+    let opened = opened(heap, &family, &table, 0)?;
     assert_eq!(rt; opened.count(1, 0), 4096);
     assert_eq!(rt; opened.count(0, 0), u64::MAX);
     refused(

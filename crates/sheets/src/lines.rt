@@ -1,118 +1,94 @@
-// The lines of the sheets: one space between the values and a line feed after each line. Each is put behind what
-// the buffer holds.
-ghost use Rattle.std.specs.Prelude.{◌≡◌, [], ◌∷◌, ◌++◌, decimal, OnOk};
+// The lines of the sheets: one space between the values and a line feed after each line. Each is written behind what
+// the writer holds.
+ghost use Rattle.std.specs.Prelude.{◌++◌, decimal, OnOk, Some};
+ghost use Rattle.std.specs.Io.KnownBytes.{Appends};
 ghost use Rattle.files.specs.Faults.{fault_number, fault_place, fault_length};
-ghost use Rattle.sheets.specs.Lines.{dotted, choice_line, text_line, total_line, refusal_lines, values, shown_text};
+ghost use Rattle.sheets.specs.Lines.{dotted, choice_line, text_line, total_line, refusal_lines, shown_text};
 
 use files::fault::Fault;
-use std::alloc::{AllocError, Global};
+use std::io::Write;
+use std::{fmt, io};
 
-fn push_number(line: &mut Vec<u8>, heap: Global, n: u64) -> Result<(), AllocError>
-    ensures { OnOk result (line.new.items ≡ line.old.items ++ decimal n) }
-{
-    let text = n.to_string(heap)?;
-    line.extend_from_slice(text.as_bytes())?;
-    Ok(())
+// Choices, joined by dots.
+#[derive(Clone, Copy)]
+struct Dotted<'a> {
+    choices: &'a [u8],
 }
 
-// Two numbers, each with a space behind it.
-fn push_values(line: &mut Vec<u8>, heap: Global, first: u64, second: u64) -> Result<(), AllocError>
-    ensures { OnOk result (line.new.items ≡ line.old.items ++ values first second) }
-{
-    push_number(line, heap, first)?;
-    line.push(b' ')?;
-    push_number(line, heap, second)?;
-    line.push(b' ')?;
-    Ok(())
-}
+impl fmt::Display for Dotted<'_> {
+    ghost output = { λ d. Some (dotted d.choices.now) };
 
-// The choices joined by dots.
-fn push_choices(line: &mut Vec<u8>, heap: Global, choices: &[u8]) -> Result<(), AllocError>
-    ensures { OnOk result (line.new.items ≡ line.old.items ++ dotted choices.now) }
-{
-    for (i, choice) in choices.iter().enumerate() {
-        if i > 0 {
-            line.push(b'.')?;
+    fn fmt<W: fmt::Write>(&self, f: &mut fmt::Formatter<W>) -> fmt::Result {
+        let Some((first, rest)) = self.choices.split_first() else {
+            return Ok(());
+        };
+        write!(f, "{first}")?;
+        for choice in rest {
+            write!(f, ".{choice}")?;
         }
-        push_number(line, heap, u64::from(*choice))?;
+        Ok(())
     }
-    Ok(())
-}
-
-// A line of a choice sheet.
-pub fn push_choice_line(
-    line: &mut Vec<u8>,
-    heap: Global,
-    size: u64,
-    number: u64,
-    choices: &[u8],
-) -> Result<(), AllocError>
-    ensures { OnOk result (line.new.items ≡ line.old.items ++ choice_line size number choices.now) }
-{
-    push_values(line, heap, size, number)?;
-    push_choices(line, heap, choices)?;
-    line.push(b'\n')?;
-    Ok(())
-}
-
-// A line of a text sheet.
-pub fn push_text_line(
-    line: &mut Vec<u8>,
-    heap: Global,
-    size: u64,
-    number: u64,
-    text: &[u8],
-) -> Result<(), AllocError>
-    ensures { OnOk result (line.new.items ≡ line.old.items ++ text_line size number text.now) }
-{
-    push_values(line, heap, size, number)?;
-    line.extend_from_slice(text)?;
-    line.push(b'\n')?;
-    Ok(())
 }
 
 // A number, or a dash where it is absent.
-fn push_shown(line: &mut Vec<u8>, heap: Global, total: Option<u64>) -> Result<(), AllocError>
-    ensures { OnOk result (line.new.items ≡ line.old.items ++ shown_text total) }
-{
-    match total {
-        Some(total) => push_number(line, heap, total),
-        None => {
-            line.push(b'-')?;
-            Ok(())
+#[derive(Clone, Copy)]
+struct Shown {
+    total: Option<u64>,
+}
+
+impl fmt::Display for Shown {
+    ghost output = { λ s. Some (shown_text s.total) };
+
+    fn fmt<W: fmt::Write>(&self, f: &mut fmt::Formatter<W>) -> fmt::Result {
+        match self.total {
+            Some(total) => write!(f, "{total}"),
+            None => write!(f, "-"),
         }
     }
 }
 
+// A line of a choice sheet.
+pub fn write_choice_line<W: Write>(
+    out: &mut W,
+    size: u64,
+    number: u64,
+    choices: &[u8],
+) -> io::Result<()>
+    ensures { OnOk result (Appends (W.contents out.old) (W.contents out.new) (choice_line size number choices.now)) }
+{
+    writeln!(out, "{size} {number} {}", Dotted { choices })
+}
+
+// A line of a text sheet.
+pub fn write_text_line<W: Write>(out: &mut W, size: u64, number: u64, text: &[u8]) -> io::Result<()>
+    ensures { OnOk result (Appends (W.contents out.old) (W.contents out.new) (text_line size number text.now)) }
+{
+    write!(out, "{size} {number} ")?;
+    out.write_all(text)?;
+    writeln!(out)
+}
+
 // A line of a totals sheet.
-pub fn push_total_line(
-    line: &mut Vec<u8>,
-    heap: Global,
+pub fn write_total_line<W: Write>(
+    out: &mut W,
     letter: u8,
     name: &[u8],
     size: u64,
     total: Option<u64>,
-) -> Result<(), AllocError>
-    ensures { OnOk result (line.new.items ≡ line.old.items ++ total_line letter name.now size total) }
+) -> io::Result<()>
+    ensures { OnOk result (Appends (W.contents out.old) (W.contents out.new) (total_line letter name.now size total)) }
 {
-    line.push(letter)?;
-    line.push(b' ')?;
-    line.extend_from_slice(name)?;
-    line.push(b' ')?;
-    push_number(line, heap, size)?;
-    line.push(b' ')?;
-    push_shown(line, heap, total)?;
-    line.push(b'\n')?;
-    Ok(())
+    out.write_all(&[letter, b' '])?;
+    out.write_all(name)?;
+    writeln!(out, " {size} {}", Shown { total })
 }
 
 // The line of names and the values of a refusal.
-pub fn push_refusal(line: &mut Vec<u8>, heap: Global, fault: Fault) -> Result<(), AllocError>
-    ensures { OnOk result (line.new.items ≡ line.old.items ++ refusal_lines (fault_number fault) (fault_place fault) (fault_length fault)) }
+pub fn write_refusal<W: Write>(out: &mut W, fault: Fault) -> io::Result<()>
+    ensures { OnOk result (Appends (W.contents out.old) (W.contents out.new) (refusal_lines (fault_number fault) (fault_place fault) (fault_length fault))) }
 {
-    line.extend_from_slice(b"refused place length\n")?;
-    push_values(line, heap, u64::from(fault.number()), fault.place() as u64)?;
-    push_number(line, heap, fault.length() as u64)?;
-    line.push(b'\n')?;
-    Ok(())
+    let number = fault.number();
+    let place = fault.place();
+    let length = fault.length();
+    writeln!(out, "refused place length\n{number} {place} {length}")
 }

@@ -1,11 +1,32 @@
 // The first line of a program's input: a name, a top size and a format, one space between.
-ghost use Rattle.std.specs.Prelude.{◌≡◌, ◌+◌, ◌<◌, ◌≤◌, length};
+ghost use Rattle.std.specs.Prelude.{◌<◌, ◌^◌};
+
+use files::fault::Fault;
+use std::str;
+
+// The first line has another form.
+const MALFORMED: Fault = Fault::Unexpected {
+    place: 0,
+    length: 0,
+};
 
 // Which sheet is asked for: the choice sheet or the text sheet.
 #[derive(Clone, Copy)]
 pub(crate) enum Format {
     Choices,
     Text,
+}
+
+impl TryFrom<u8> for Format {
+    type Error = Fault;
+
+    fn try_from(letter: u8) -> Result<Format, Fault> {
+        match letter {
+            b'c' => Ok(Format::Choices),
+            b't' => Ok(Format::Text),
+            _ => Err(MALFORMED),
+        }
+    }
 }
 
 // What is asked for, and the family file behind the line.
@@ -15,78 +36,51 @@ pub(crate) struct Request<'a> {
     pub(crate) top: usize,
     pub(crate) format: Format,
     pub(crate) file: &'a [u8],
+    ghost small: { top < 2 ^ 16 },
 }
 
-fn is_name_byte(b: u8) -> bool {
-    b.is_ascii_alphanumeric() || b == b'_'
+fn is_name_byte(b: &u8) -> bool {
+    b.is_ascii_alphanumeric() || *b == b'_'
 }
 
-// Where a name that begins at the front ends; 0 where none does.
-fn name_end(input: &[u8]) -> usize
-    ensures { result ≤ length input.now }
+// The longest front of bytes that `is_in` takes, and what is behind it.
+fn split_run<F: Fn(&u8) -> bool>(input: &[u8], is_in: F) -> (&[u8], &[u8])
+    requires { F.IsAlwaysCallable is_in }
 {
-    for (i, b) in input.iter().enumerate() {
-        if !is_name_byte(*b) || i == 0 && !b.is_ascii_alphabetic() {
-            return i;
-        }
-    }
-    input.len()
-}
-
-// Where a run of digits that begins at the front ends.
-fn digits_end(input: &[u8]) -> usize
-    ensures { result ≤ length input.now }
-{
-    for (i, b) in input.iter().enumerate() {
-        if !b.is_ascii_digit() {
-            return i;
-        }
-    }
-    input.len()
+    let end = input.iter().position(|b| !is_in(b));
+    input.split_at(end.unwrap_or(input.len()))
 }
 
 // The number of a run of one to four digits.
-fn top_size(run: &[u8]) -> Option<usize> {
-    if run.is_empty() || run.len() > 4 {
+fn top_size(run: &[u8]) -> Option<u16> {
+    if run.len() > 4 {
         return None;
     }
-    let mut top = 0usize;
-    for b in run {
-        top = top
-            .saturating_mul(10)
-            .saturating_add(usize::from(*b).saturating_sub(48));
-    }
-    Some(top)
+    str::from_utf8(run).ok()?.parse().ok()
 }
 
-fn format_of(letter: u8) -> Option<Format> {
-    match letter {
-        b'c' => Some(Format::Choices),
-        b't' => Some(Format::Text),
-        _ => None,
-    }
-}
+// Reads the line.
+impl<'a> TryFrom<&'a [u8]> for Request<'a> {
+    type Error = Fault;
 
-// Reads the line; none where it has another form.
-pub(crate) fn read_request<'a>(input: &'a [u8]) -> Option<Request<'a>> {
-    let end = name_end(input);
-    if end == 0 {
-        return None;
+    fn try_from(input: &'a [u8]) -> Result<Request<'a>, Fault> {
+        let (name, rest) = split_run(input, is_name_byte);
+        if !name.first().is_some_and(u8::is_ascii_alphabetic) {
+            return Err(MALFORMED);
+        }
+        let [b' ', rest @ ..] = rest else {
+            return Err(MALFORMED);
+        };
+        let (run, rest) = split_run(rest, u8::is_ascii_digit);
+        let top = top_size(run).ok_or(MALFORMED)?;
+        let [b' ', letter, b'\n', file @ ..] = rest else {
+            return Err(MALFORMED);
+        };
+        Ok(Request {
+            name,
+            top: usize::from(top),
+            format: Format::try_from(*letter)?,
+            file,
+        })
     }
-    let (name, rest) = input.split_at(end);
-    let [b' ', rest @ ..] = rest else {
-        return None;
-    };
-    let (run, rest) = rest.split_at(digits_end(rest));
-    let top = top_size(run)?;
-    let [b' ', letter, b'\n', file @ ..] = rest else {
-        return None;
-    };
-    let format = format_of(*letter)?;
-    Some(Request {
-        name,
-        top,
-        format,
-        file,
-    })
 }

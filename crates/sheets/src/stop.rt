@@ -26,7 +26,7 @@ impl From<io::Error> for Stop {
 }
 
 impl From<AllocError> for Stop {
-    fn from(_error: AllocError) -> Stop {
-        Stop::Failed(io::Error::from(io::ErrorKind::OutOfMemory))
+    fn from(error: AllocError) -> Stop {
+        Stop::Failed(io::Error::from(error))
     }
 }

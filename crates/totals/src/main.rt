@@ -5,14 +5,10 @@ use sheets::total_sheet::print_totals;
 use std::io;
 use std::io::{BufWriter, Read, Write};
 
-fn run(rt: &HostRuntime) -> io::Result<()> {
+fn main(rt: HostRuntime) -> io::Result<()> {
     let mut input = Vec::new(rt.alloc());
     rt.stdin().read_to_end(&mut input)?;
     let mut out = BufWriter::new(rt.alloc(), rt.stdout())?;
     print_totals(&mut out, rt.alloc(), &input)?;
     out.flush()
-}
-
-fn main(rt: HostRuntime) -> io::Result<()> {
-    run(&rt)
 }

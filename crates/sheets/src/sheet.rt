@@ -1,0 +1,23 @@
+// What all sheets have in common: they are of what is asked for, and a refusal ends them.
+use crate::asked::Asked;
+use crate::lines::write_refusal;
+use crate::stop::Stop;
+use std::alloc::Global;
+use std::io;
+use std::io::Write;
+
+// Prints the sheet that `write` writes for an input. A refusal is the sheet's last two lines.
+pub(crate) fn print_sheet<W: Write, F: FnOnce(&mut W, Global, &Asked<'_>) -> Result<(), Stop>>(
+    out: &mut W,
+    heap: Global,
+    input: &[u8],
+    write: F,
+) -> io::Result<()>
+    requires { F.IsAlwaysCallable write }
+{
+    match Asked::read(heap, input).and_then(|asked| write(out, heap, &asked)) {
+        Ok(()) => Ok(()),
+        Err(Stop::Refused(fault)) => write_refusal(out, fault),
+        Err(Stop::Failed(error)) => Err(error),
+    }
+}
