@@ -1,6 +1,6 @@
 // The layout sheet: every layout of a name up to a size, by the rising order.
 use crate::asked::Asked;
-use crate::lines::{write_choice_line, write_text_line};
+use crate::lines::{push_choice_line, push_text_line};
 use crate::request::Format;
 use crate::sheet::print_sheet;
 use crate::stop::Stop;
@@ -28,6 +28,8 @@ struct Sheet<'a, W> {
     list: Vec<u8>,
     stack: Vec<Pending>,
     page: Vec<u8>,
+    line: Vec<u8>,
+    heap: Global,
 }
 
 impl<W: Write> Sheet<'_, W> {
@@ -44,8 +46,15 @@ impl<W: Write> Sheet<'_, W> {
             &mut self.stack,
         )?;
         let choices = &self.list[0..written];
+        self.line.clear();
         match self.asked.request.format {
-            Format::Choices => write_choice_line(&mut self.out, size as u64, number, choices)?,
+            Format::Choices => push_choice_line(
+                &mut self.line,
+                self.heap,
+                size as u64,
+                number,
+                choices,
+            )?,
             Format::Text => {
                 let mut mark = 0;
                 print(
@@ -57,9 +66,10 @@ impl<W: Write> Sheet<'_, W> {
                     &mut mark,
                 )?;
                 let text = &self.page[0..mark];
-                write_text_line(&mut self.out, size as u64, number, text)?;
+                push_text_line(&mut self.line, self.heap, size as u64, number, text)?;
             }
         }
+        self.out.write_all(&self.line)?;
         Ok(())
     }
 
@@ -99,6 +109,8 @@ fn write_layouts<W: Write>(out: &mut W, heap: Global, asked: &Asked<'_>) -> Resu
         list: Vec::from_elem(heap, 0, PLACES)?,
         stack: Vec::from_elem(heap, Pending::vacant(), PLACES)?,
         page: Vec::from_elem(heap, 0, PAGE)?,
+        line: Vec::new(heap),
+        heap,
     };
     sheet.write_sizes()
 }

@@ -1,13 +1,12 @@
-// The lines of the sheets: one space between the values and a line feed after each line. Each is written behind what
-// the writer holds.
-ghost use Rattle.std.specs.Prelude.{◌++◌, decimal, OnOk, Some};
-ghost use Rattle.std.specs.Io.KnownBytes.{Appends};
+// The lines of the sheets: one space between the values and a line feed after each line. Each is put behind what
+// the buffer holds.
+ghost use Rattle.std.specs.Prelude.{◌≡◌, [], ◌∷◌, ◌++◌, decimal, OnOk, Some};
 ghost use Rattle.files.specs.Faults.{fault_number, fault_place, fault_length};
-ghost use Rattle.sheets.specs.Lines.{dotted, choice_line, text_line, total_line, refusal_lines, shown_text};
+ghost use Rattle.sheets.specs.Lines.{dotted, choice_line, text_line, total_line, refusal_lines, shown_text, values};
 
 use files::fault::Fault;
-use std::io::Write;
-use std::{fmt, io};
+use std::alloc::{AllocError, Global};
+use std::fmt;
 
 // Choices, joined by dots.
 #[derive(Clone, Copy)]
@@ -48,47 +47,72 @@ impl fmt::Display for Shown {
 }
 
 // A line of a choice sheet.
-pub fn write_choice_line<W: Write>(
-    out: &mut W,
+pub fn push_choice_line(
+    line: &mut Vec<u8>,
+    heap: Global,
     size: u64,
     number: u64,
     choices: &[u8],
-) -> io::Result<()>
-    ensures { OnOk result (Appends (W.contents out.old) (W.contents out.new) (choice_line size number choices.now)) }
+) -> Result<(), AllocError>
+    ensures { OnOk result (line.new.items ≡ line.old.items ++ choice_line size number choices.now) }
 {
-    writeln!(out, "{size} {number} {}", Dotted { choices })
+    let text = format!(in heap; "{size} {number} {}\n", Dotted { choices })?;
+    line.extend_from_slice(text.as_bytes())
 }
 
 // A line of a text sheet.
-pub fn write_text_line<W: Write>(out: &mut W, size: u64, number: u64, text: &[u8]) -> io::Result<()>
-    ensures { OnOk result (Appends (W.contents out.old) (W.contents out.new) (text_line size number text.now)) }
+pub fn push_text_line(
+    line: &mut Vec<u8>,
+    heap: Global,
+    size: u64,
+    number: u64,
+    text: &[u8],
+) -> Result<(), AllocError>
+    ensures { OnOk result (line.new.items ≡ line.old.items ++ text_line size number text.now) }
 {
-    write!(out, "{size} {number} ")?;
-    out.write_all(text)?;
-    writeln!(out)
+    let values = format!(in heap; "{size} {number} ")?;
+    line.extend_from_slice(values.as_bytes())?;
+    line.extend_from_slice(text)?;
+    line.push(b'\n')?;
+    Ok(())
 }
 
 // A line of a totals sheet.
-pub fn write_total_line<W: Write>(
-    out: &mut W,
+pub fn push_total_line(
+    line: &mut Vec<u8>,
+    heap: Global,
     letter: u8,
     name: &[u8],
     size: u64,
     total: Option<u64>,
-) -> io::Result<()>
-    ensures { OnOk result (Appends (W.contents out.old) (W.contents out.new) (total_line letter name.now size total)) }
+) -> Result<(), AllocError>
+    ensures { OnOk result (line.new.items ≡ line.old.items ++ total_line letter name.now size total) }
 {
-    out.write_all(&[letter, b' '])?;
-    out.write_all(name)?;
-    writeln!(out, " {size} {}", Shown { total })
+    line.extend_from_slice(&[letter, b' '])?;
+    line.extend_from_slice(name)?;
+    let values = format!(in heap; " {size} {}\n", Shown { total })?;
+    line.extend_from_slice(values.as_bytes())
+}
+
+// The values of a refusal.
+fn push_values(
+    line: &mut Vec<u8>,
+    heap: Global,
+    number: u8,
+    place: usize,
+    length: usize,
+) -> Result<(), AllocError>
+    ensures { OnOk result (line.new.items ≡ line.old.items ++ (values number place ++ (decimal length ++ 10 ∷ []))) }
+{
+    let text = format!(in heap; "{number} {place} {length}\n")?;
+    line.extend_from_slice(text.as_bytes())
 }
 
 // The line of names and the values of a refusal.
-pub fn write_refusal<W: Write>(out: &mut W, fault: Fault) -> io::Result<()>
-    ensures { OnOk result (Appends (W.contents out.old) (W.contents out.new) (refusal_lines (fault_number fault) (fault_place fault) (fault_length fault))) }
+pub fn push_refusal(line: &mut Vec<u8>, heap: Global, fault: Fault) -> Result<(), AllocError>
+    ensures { OnOk result (line.new.items ≡ line.old.items ++ refusal_lines (fault_number fault) (fault_place fault) (fault_length fault)) }
 {
-    let number = fault.number();
-    let place = fault.place();
-    let length = fault.length();
-    writeln!(out, "refused place length\n{number} {place} {length}")
+    line.extend_from_slice(b"refused place length\n")?;
+    push_values(line, heap, fault.number(), fault.place(), fault.length())?;
+    Ok(())
 }

@@ -1,10 +1,18 @@
 // What all sheets have in common: they are of what is asked for, and a refusal ends them.
 use crate::asked::Asked;
-use crate::lines::write_refusal;
+use crate::lines::push_refusal;
 use crate::stop::Stop;
+use files::fault::Fault;
 use std::alloc::Global;
 use std::io;
 use std::io::Write;
+
+// Writes the two lines of a refusal.
+fn write_refusal<W: Write>(out: &mut W, heap: Global, fault: Fault) -> io::Result<()> {
+    let mut lines = Vec::new(heap);
+    push_refusal(&mut lines, heap, fault)?;
+    out.write_all(&lines)
+}
 
 // Prints the sheet that `write` writes for an input. A refusal is the sheet's last two lines.
 pub(crate) fn print_sheet<W: Write, F: FnOnce(&mut W, Global, &Asked<'_>) -> Result<(), Stop>>(
@@ -17,7 +25,7 @@ pub(crate) fn print_sheet<W: Write, F: FnOnce(&mut W, Global, &Asked<'_>) -> Res
 {
     match Asked::read(heap, input).and_then(|asked| write(out, heap, &asked)) {
         Ok(()) => Ok(()),
-        Err(Stop::Refused(fault)) => write_refusal(out, fault),
+        Err(Stop::Refused(fault)) => write_refusal(out, heap, fault),
         Err(Stop::Failed(error)) => Err(error),
     }
 }

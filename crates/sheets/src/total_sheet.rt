@@ -1,6 +1,6 @@
 // The totals sheet: a name's totals up to a size, counts first and then the cheapest costs.
 use crate::asked::Asked;
-use crate::lines::write_total_line;
+use crate::lines::push_total_line;
 use crate::sheet::print_sheet;
 use crate::stop::Stop;
 use std::alloc::Global;
@@ -13,23 +13,25 @@ use tables::kind::WeightKind;
 // The lines of one kind, from a table of that kind: the names' rows come first, with an entry for each size.
 fn write_kind<K: WeightKind, W: Write>(
     out: &mut W,
+    heap: Global,
     asked: &Asked<'_>,
     table: &[K],
 ) -> io::Result<()> {
+    let mut lines = Vec::new(heap);
     let name = asked.request.name;
     let row = table.chunks(asked.request.top + 1).nth(asked.name);
     for (size, total) in row.unwrap_or(&[]).iter().enumerate() {
-        write_total_line(out, K::LETTER, name, size as u64, total.show())?;
+        push_total_line(&mut lines, heap, K::LETTER, name, size as u64, total.show())?;
     }
-    Ok(())
+    out.write_all(&lines)
 }
 
 fn write_totals<W: Write>(out: &mut W, heap: Global, asked: &Asked<'_>) -> Result<(), Stop> {
     let counts = asked.table::<Count>(heap)?;
     let costs = asked.table::<Cheapest>(heap)?;
     writeln!(out, "kind name size total")?;
-    write_kind(out, asked, &counts)?;
-    write_kind(out, asked, &costs)?;
+    write_kind(out, heap, asked, &counts)?;
+    write_kind(out, heap, asked, &costs)?;
     Ok(())
 }
 
