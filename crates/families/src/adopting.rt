@@ -241,11 +241,7 @@ impl Family {
         let chains = all_chains(grammar, &nullable);
         let cycle = first_cycle(&chains, names);
         if cycle < names {
-            let label = grammar.rule(cycle).label;
-            return Err(Fault::EmptyCycle {
-                place: label.place(),
-                length: label.length(),
-            });
+            return Err(Fault::EmptyCycle(grammar.rule(cycle).label.span()));
         }
         self.grammar.copy_from(grammar);
         self.nullable = nullable;

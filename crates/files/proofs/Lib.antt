@@ -1,5 +1,5 @@
 mod Digits
-mod Lookups
+mod Defaults
 mod Each
 mod Resolves
 pub mod Places

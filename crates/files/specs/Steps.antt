@@ -1,5 +1,5 @@
 -- How rules are read, token by token. Assumes nothing.
-use Rattle.std.specs.Prelude.{ℕ, ◌-◌, cond, ◌&&◌, List, [], ◌∷◌, ◌++◌, length, Ok, Err, Result, nat_lt}
+use Rattle.std.specs.Prelude.{◌≡◌, ℕ, ◌-◌, cond, ◌&&◌, List, [], ◌∷◌, ◌++◌, length, Ok, Err, Result, nat_lt}
 use Rattle.files.specs.Faults.{Answer, granted, refused, refusal}
 use Rattle.files.specs.Scans.{Word, name, literal, digits, equals, bar, semicolon, colon, at}
 use Rattle.files.specs.Items.{label_of, no_items, with_item, with_size, with_cost, decimal}
@@ -157,3 +157,8 @@ stepped r w p n = acted (action r.state w) (said w) r p n
 abbrev pub step_answer : Result (Unit {0}) Fault → Reading → Answer Reading
 step_answer (Ok x) r = granted r
 step_answer (Err e) r = refusal e
+
+-- a step from the reading r to the reading s answers a, and a refusal leaves the reading as it was
+abbrev pub StepAnswers : Result (Unit {0}) Fault → Reading → Reading → Answer Reading → Type 0
+StepAnswers (Ok x) r s a = granted s ≡ a
+StepAnswers (Err e) r s a = (refusal e ≡ a) × (s ≡ r)

@@ -12,8 +12,8 @@ overflow_add-value c = omega (arith, few c.loop-b.b-index (omega arith))
 
 pub loop-b-preserved : goal.loop-b-preserved
 loop-b-preserved c =
-    let more = fold_more (λ (n b : ℕ). n * 10 + (b - 48)) 0 c.args.run.now c.loop-b.b-index 0 (omega arith) in
+    let more = fold_more (λ (n b : ℕ). n * 10 + (b - 48)) 0 c.bytes-bytes.result.now c.loop-b.b-index 0 (omega arith) in
     (omega (arith, more), omega (arith, ap most (add-one c.loop-b.b-index)))
 
 pub returns : goal.returns
-returns c = c.loop-b.invariant.0 ∙ ap decimal (take_all c.loop-b.b-index c.args.run.now (omega arith))
+returns c = c.loop-b.invariant.0 ∙ ap decimal (take_all c.loop-b.b-index c.bytes-bytes.result.now (omega arith) ∙ c.bytes-bytes.ensures.bytes)

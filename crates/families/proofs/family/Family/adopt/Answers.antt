@@ -31,11 +31,11 @@ returns-then-cycle-names c =
         refl,
         refl,
         refl,
-        subst (λ (v : Grammar). OnCycle (lists_of v) (EmptyCycle c.place.result c.length.result)) c.grammar-grammar.ensures
+        subst (λ (v : Grammar). OnCycle (lists_of v) (EmptyCycle c.span.result)) c.grammar-grammar.ensures
             (record {
               name = y;
               defined = inside;
-              is = ap₂ EmptyCycle (c.place.ensures ∙ ap (λ r. r.label.place) c.rule.ensures) (c.length.ensures ∙ ap (λ r. r.label.length) c.rule.ensures);
+              is = ap EmptyCycle (c.span.ensures ∙ (λ j. record { place = (c.rule.ensures j).label.place; length = (c.rule.ensures j).label.length }));
               cycle = on_cycle l _ _ formed c.nullable_names-nullable.ensures c.all_chains-chains.ensures y inside (c.first_cycle-cycle.ensures.found c.if-cycle-names.true);
               first = λ z h. off_cycle l _ _ formed c.nullable_names-nullable.ensures c.all_chains-chains.ensures z (omega (arith, formed.few_rules)) (c.first_cycle-cycle.ensures.before z h);
             }),
