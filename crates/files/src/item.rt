@@ -185,7 +185,7 @@ fn digit_value(b: u8) -> u32
     ensures value { result ≡ b - 48 }
     ensures small { result ≤ 207 }
 {
-    u32::from(b).saturating_sub(48)
+    u32::from(b.saturating_sub(b'0'))
 }
 
 // The number that a run of one to four digits stands for.

@@ -53,8 +53,7 @@ impl Grammar {
         ensures { lists_answer result (lists_of self.new) ≡ resolved (lists_of self.old) }
     {
         for a in 0..self.alternatives.len() {
-            let resolved = self.resolve_alternative(self.alternatives[a])?;
-            self.alternatives[a] = resolved;
+            self.alternatives[a] = self.resolve_alternative(self.alternatives[a])?;
         }
         Ok(())
     }
