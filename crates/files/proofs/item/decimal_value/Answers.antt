@@ -6,5 +6,3 @@ use Rattle.files.proofs.item.decimal_value.Goals as goal
 pub overflow_mul-value : goal.overflow_mul-value
 overflow_mul-value c = omega (arith, few c.loop-b.b-index (omega arith))
 
-pub overflow_add-value : goal.overflow_add-value
-overflow_add-value c = omega (arith, few c.loop-b.b-index (omega arith))
