@@ -56,6 +56,14 @@ loop-t-preserved c =
     let inside = found_inside _ _ _ _ _ (subst (λ (f : List ℕ). c.loop-t.lexer.at ≤ length f) i.0 c.loop-t.lexer.within) here in
     (c.next_token.ensures.same ∙ i.0, λ a rest. i.1 a (goes _ _ _ here inside.0 inside.1 (sym c.in_ok-step.ensures) (subst (λ n. Reads c.args.file.now n (reading_of c.step.new.self) a) at rest)), i.2)
 
+pub loop-t-smaller : goal.loop-t-smaller
+loop-t-smaller c =
+    let told = c.in_ok-t.ensures in
+    let i = c.loop-t.invariant in
+    let at = told.moved ∙ ap (λ o. next_place c.loop-t.lexer.at (length c.loop-t.lexer.file.now) (scan_step o)) c.in-Some.is in
+    let inside = found_inside _ _ _ _ _ (subst (λ (f : List ℕ). c.loop-t.lexer.at ≤ length f) i.0 c.loop-t.lexer.within) (seen _ _ _ _ _ i.0 told.value c.in-Some.is) in
+    omega arith
+
 pub returns-in_err-step : goal.returns-in_err-step
 returns-in_err-step c =
     let p = err_from_is_err_and c.from_residual-in_err-step.result c.from_residual-in_err-step.ensures.1 in
