@@ -326,12 +326,6 @@ wrong_means f p k q n e = subst (Says f p) e (says f p)
 
 -- Where a token ends
 
-pub after-token : (f : List ℕ) (p : ℕ) (t : Token) (h : NextToken f p t) → drop (t.place + width t) f ≡ h.rest
-after-token f p t h =
-    sym (drop-drop (width t) t.place f)
-    ∙ ap (drop (width t)) (behind f p t.place (written t.word ++ h.rest) h.stands)
-    ∙ drop_at (written t.word) h.rest (width t) refl
-
 written_some : (w : Word) → Proper w → 0 < length (written w)
 written_some (name []) h = absurd h.0
 written_some (name (b ∷ s)) h = omega arith

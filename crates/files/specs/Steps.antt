@@ -153,11 +153,6 @@ acted unfit s r p n = refused 6 p n
 abbrev pub stepped : Reading → Word → ℕ → ℕ → Answer Reading
 stepped r w p n = acted (action r.state w) (said w) r p n
 
--- what a step answered, with the reading after it
-abbrev pub step_answer : Result (Unit {0}) Fault → Reading → Answer Reading
-step_answer (Ok x) r = granted r
-step_answer (Err e) r = refusal e
-
 -- a step from the reading r to the reading s answers a, and a refusal leaves the reading as it was
 abbrev pub StepAnswers : Result (Unit {0}) Fault → Reading → Reading → Answer Reading → Type 0
 StepAnswers (Ok x) r s a = granted s ≡ a

@@ -3,7 +3,6 @@ ghost use Rattle.std.specs.Prelude.{◌≡◌, ℕ, ◌+◌, ◌<◌, ◌≤◌,
 ghost use Rattle.files.specs.declared.fault.Fault.TheVariants.{OutOfMemory};
 ghost use Rattle.files.specs.Grammars.{Lists, lists_of, no_lists};
 ghost use Rattle.files.specs.Faults.{Answer, answer};
-ghost use Rattle.files.specs.Steps.{reading_of, step_answer};
 ghost use Rattle.files.specs.Files.{resolved_item, resolved_alternative, resolved, closed, ReadsFile, read_file, lists_answer};
 ghost use Rattle.files.specs.Meanings.{Means};
 
