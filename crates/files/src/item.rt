@@ -21,7 +21,7 @@ impl Label {
         let text = text.bytes();
         let length = text.len();
         let mut bytes = [0u8; 24];
-        bytes[0..length].copy_from_slice(text);
+        bytes[..length].copy_from_slice(text);
         Label {
             bytes,
             length,
@@ -33,7 +33,7 @@ impl Label {
         ensures { result.now ≡ text_of self.now }
     {
         let end = self.length.min(24);
-        &self.bytes[0..end]
+        &self.bytes[..end]
     }
 
     pub fn place(&self) -> usize

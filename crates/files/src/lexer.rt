@@ -12,7 +12,7 @@ use crate::token::{Spanned, Token};
 fn is_blank(b: u8) -> bool
     ensures { result ≡ blank b }
 {
-    b == b' ' || b == b'\t' || b == b'\n' || b == b'\r'
+    matches!(b, b' ' | b'\t' | b'\n' | b'\r')
 }
 
 fn is_letter(b: u8) -> bool

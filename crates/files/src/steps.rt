@@ -2,7 +2,7 @@
 ghost use Rattle.std.specs.Prelude.{◌≡◌, [], MatchResult};
 ghost use Rattle.files.specs.declared.fault.Fault.TheVariants.{OutOfMemory};
 ghost use Rattle.files.specs.Scans.{word_of};
-ghost use Rattle.files.specs.Steps.{reading_of, fresh, stepped, acted, StepAnswers, begin_rule, begin_alternative, next_alternative, end_rule, add_name, add_literal, item_added};
+ghost use Rattle.files.specs.Steps.{reading_of, fresh, stepped, acted, StepAnswers, Acts, begin_rule, begin_alternative, next_alternative, end_rule, add_name, add_literal, item_added};
 ghost use Rattle.files.specs.States.{begun, opened, InAlternative};
 ghost use Rattle.files.specs.Faults.{granted};
 
@@ -41,7 +41,7 @@ impl Reader {
     }
 
     fn begin_rule(&mut self, text: Word<'_>, at: Span) -> Result<(), Fault>
-        ensures { StepAnswers result (reading_of self.old) (reading_of self.new) (acted begin_rule text.entry.bytes.now (reading_of self.old) at.place at.length) }
+        ensures { Acts begin_rule text.entry.bytes.now at self.old self.new result }
     {
         if self.grammar.index(text.bytes()).is_some() {
             return Err(Fault::NameTaken(at));
@@ -57,7 +57,7 @@ impl Reader {
 
     fn begin_alternative(&mut self, at: Span) -> Result<(), Fault>
         requires { opened self.old.state ≡ 1 }
-        ensures { StepAnswers result (reading_of self.old) (reading_of self.new) (acted begin_alternative [] (reading_of self.old) at.place at.length) }
+        ensures { Acts begin_alternative [] at self.old self.new result }
     {
         if self.grammar.alternatives.len() >= 64 {
             return Err(Fault::NoRoom(at));
@@ -69,7 +69,7 @@ impl Reader {
 
     fn next_alternative(&mut self, at: Span) -> Result<(), Fault>
         requires { opened self.old.state ≡ 1 }
-        ensures { StepAnswers result (reading_of self.old) (reading_of self.new) (acted next_alternative [] (reading_of self.old) at.place at.length) }
+        ensures { Acts next_alternative [] at self.old self.new result }
     {
         if self.grammar.alternatives.len() >= 63 {
             return Err(Fault::NoRoom(at));
@@ -112,7 +112,7 @@ impl Reader {
     // A name that is used, as an item.
     fn add_name(&mut self, text: Word<'_>, at: Span) -> Result<(), Fault>
         requires { InAlternative self.old.state }
-        ensures { StepAnswers result (reading_of self.old) (reading_of self.new) (acted add_name text.entry.bytes.now (reading_of self.old) at.place at.length) }
+        ensures { Acts add_name text.entry.bytes.now at self.old self.new result }
     {
         let item = Item::Use {
             label: self.grammar.labels.len(),
@@ -123,7 +123,7 @@ impl Reader {
     // A literal, as an item of size 1 and cost 1.
     fn add_literal(&mut self, text: Word<'_>, at: Span) -> Result<(), Fault>
         requires { InAlternative self.old.state }
-        ensures { StepAnswers result (reading_of self.old) (reading_of self.new) (acted add_literal text.entry.bytes.now (reading_of self.old) at.place at.length) }
+        ensures { Acts add_literal text.entry.bytes.now at self.old self.new result }
     {
         let item = Item::Literal {
             label: self.grammar.labels.len(),

@@ -5,4 +5,3 @@ use Rattle.files.proofs.item.decimal_value.Goals as goal
 
 pub overflow_mul-value : goal.overflow_mul-value
 overflow_mul-value c = omega (arith, few c.loop-b.b-index (omega arith))
-
