@@ -1,7 +1,6 @@
 -- What stands in the place of a label or a rule that is not there. Assumes nothing.
-use Rattle.std.proofs.Common.{◌≡◌, ℕ, zero, suc, ◌<◌, List, [], ◌∷◌, length, get_or, replicate, Some, None, Option, refl, ap₂, arith}
+use Rattle.std.proofs.Common.{◌≡◌, ℕ, zero, suc, ◌<◌, List, [], ◌∷◌, length, get_or, replicate, refl, ap₂, arith}
 use Rattle.std.specs.Array.{AllOfLen}
-use Rattle.std.specs.Option.{unwrap_or, UnwrapsOrElse}
 use Rattle.files.specs.Grammars.{no_label, no_rule}
 use Rattle.files.specs.declared.item.Label.{Label}
 use Rattle.files.specs.declared.item.Rule.{Rule}
@@ -21,8 +20,3 @@ label_default l h = let e = zeros l.bytes 24 h.0.long (λ i d k. h.0.at i d k) i
 
 pub rule_default : (r : Rule) → IsNoLabel r.label × ((r.first ≡ 0) × (r.count ≡ 0)) → r ≡ no_rule
 rule_default r h = λ j. record { label = label_default r.label h.0 j; first = h.1.0 j; count = h.1.1 j }
-
--- the value, or the one default
-pub or_default : {X : Type 0} (o : Option X) (P : X → Type 0) (r d : X) → ((x : X) → P x → x ≡ d) → UnwrapsOrElse o P r → r ≡ unwrap_or o d
-or_default None P r d only h = only r h
-or_default (Some x) P r d only h = h

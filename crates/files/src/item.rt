@@ -189,6 +189,7 @@ fn digit_value(b: u8) -> u32
 }
 
 // The number that a run of one to four digits stands for.
+#[tactic(auto, using(crate::proofs::Digits::few))]
 pub(crate) fn decimal_value(run: DigitRun<'_>) -> u32
     ensures { result ≡ decimal run.entry.bytes.now }
 {

@@ -58,6 +58,7 @@ impl Grammar {
     }
 
     // Rule y; one without alternatives past the last.
+    #[tactic(auto, using(crate::proofs::Defaults::rule_default))]
     pub fn rule(&self, y: usize) -> Rule
         ensures { result ≡ rule_at self.now.rules.items y }
     {
@@ -72,6 +73,7 @@ impl Grammar {
     }
 
     // The label of item j; an empty one past the last.
+    #[tactic(auto, using(crate::proofs::Defaults::label_default))]
     pub fn label(&self, j: usize) -> Label
         ensures { result ≡ label_at self.now.labels.items j }
     {

@@ -16,6 +16,7 @@ use crate::token::{Spanned, Token};
 use std::alloc::Global;
 
 impl Reader {
+    #[tactic(auto, using(crate::proofs::Defaults::label_default))]
     pub(crate) fn new(heap: Global) -> Result<Reader, Fault>
         ensures { MatchResult result (λ v. reading_of v ≡ fresh) (λ e. e ≡ OutOfMemory) }
     {
@@ -30,6 +31,7 @@ impl Reader {
     }
 
     // Ready for a new file.
+    #[tactic(auto, using(crate::proofs::Defaults::label_default))]
     pub(crate) fn restart(&mut self)
         ensures { reading_of self.new ≡ fresh }
     {
