@@ -1,6 +1,5 @@
 -- What reading answers is what the file means. Assumes nothing.
 use Rattle.std.proofs.Common.{◌≡◌, ◌≢◌, ℕ, ◌+◌, ◌<◌, ◌≤◌, Bool, true, false, ltb, leb, ◌⊎◌, List, [], ◌∷◌, ◌++◌, length, drop, MatchBool, sym, refl, ap, ◌∙◌, subst, inl, inr, ⊎_elim, not-suc-le-zero}
-use mathlib.Core.Bool.{false≢true}
 use Rattle.std.proofs.lemmas.Bool.{cond_both, ltb-true, ltb-false, leb-true, leb-false}
 use Rattle.std.proofs.lemmas.List.{append-nil}
 use Rattle.files.specs.Faults.{Answer, refused}
@@ -11,7 +10,7 @@ use Rattle.files.specs.Steps.{Reading, fresh}
 use Rattle.files.specs.Files.{resolved, closed, Reads, ends, goes, stops, fails, ReadsFile}
 use Rattle.files.specs.Tokens.{Every, Token, token, width, written, NextToken, Tokens}
 use Rattle.files.specs.Sources.{SourceRule, names_of, alternatives_of, RulesTokens, Kept, rules_from, drafted, read_item}
-use Rattle.files.specs.Meanings.{RuleFile, Part, nothing, its_name, opened, awaiting, PartTokens, names_begun, alternatives_begun, BeginRules, Start, ReadTo, FirstUndefined, Refused, too_long, no_token, not_allowed, within_rule, name_taken, no_place, no_rule, undefined_name, Means}
+use Rattle.files.specs.Meanings.{RuleFile, Part, nothing, PartTokens, names_begun, alternatives_begun, BeginRules, Start, ReadTo, FirstUndefined, Refused, too_long, no_token, not_allowed, within_rule, name_taken, no_place, no_rule, undefined_name, Means}
 use Rattle.files.specs.declared.state.State.{State}
 use Rattle.files.specs.declared.state.State.TheVariants.{Outside}
 use Rattle.files.proofs.Spelling.{found_means, end_means, wrong_means}

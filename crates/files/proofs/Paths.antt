@@ -1,10 +1,9 @@
 -- Which tokens rules may begin with: those along which the reader's states go. Assumes nothing.
-use Rattle.std.proofs.Common.{◌≡◌, ℕ, Bool, true, false, cond, ltb, List, [], ◌∷◌, ◌++◌, length, sym, refl, ap, ◌∙◌, subst, ⊎_elim, arith}
-use mathlib.Core.Bool.{false≢true}
+use Rattle.std.proofs.Common.{◌≡◌, ℕ, Bool, true, false, cond, ltb, List, [], ◌∷◌, ◌++◌, length, sym, refl, ap, ◌∙◌, subst, ⊎_elim}
 use Rattle.std.proofs.lemmas.List.{append_assoc, append-nil}
 use Rattle.files.specs.Faults.{Answer, granted, refused}
 use Rattle.files.specs.Scans.{Word, digits, equals, bar, semicolon, colon, at}
-use Rattle.files.specs.Steps.{Reading, Action, begin_rule, begin_alternative, next_alternative, end_rule, add_name, add_literal, set_size, set_cost, expect_size, expect_cost, unfit, action, said, acted, stepped}
+use Rattle.files.specs.Steps.{Reading, Action, unfit, action, said, acted, stepped}
 use Rattle.files.specs.Items.{label_of, decimal}
 use Rattle.files.specs.Grammars.{rule_index}
 use Rattle.files.specs.Tokens.{Token, token}

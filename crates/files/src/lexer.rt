@@ -1,5 +1,5 @@
 // Tokens out of bytes: blanks are passed over, and each token is as long as it can be.
-ghost use Rattle.std.specs.Prelude.{◌≡◌, ℕ, Bool, ◌+◌, ◌<◌, ◌≤◌, length, drop};
+ghost use Rattle.std.specs.Prelude.{◌≡◌, ℕ, Bool, ◌<◌, ◌≤◌, length, drop};
 ghost use Rattle.std.specs.List.{prefix_len};
 ghost use Rattle.files.specs.Bytes.{blank, letter, digit, name_byte, plain};
 ghost use Rattle.files.specs.Scans.{scan_of, name_at, digits_at, literal_at, token_at, scan, next_place};

@@ -1,5 +1,5 @@
 // The reader of files.
-ghost use Rattle.std.specs.Prelude.{◌≡◌, ℕ, ◌+◌, ◌<◌, ◌≤◌, true, length, is_err, vec_len, MatchResult, nat_lt};
+ghost use Rattle.std.specs.Prelude.{◌≡◌, true, length, is_err, MatchResult, nat_lt};
 ghost use Rattle.files.specs.declared.fault.Fault.TheVariants.{OutOfMemory};
 ghost use Rattle.files.specs.Grammars.{Lists, lists_of, no_lists};
 ghost use Rattle.files.specs.Faults.{Answer, answer};

@@ -3,7 +3,7 @@ ghost use Rattle.std.specs.Prelude.{◌≡◌, [], MatchResult};
 ghost use Rattle.files.specs.declared.fault.Fault.TheVariants.{OutOfMemory};
 ghost use Rattle.files.specs.Scans.{word_of};
 ghost use Rattle.files.specs.Steps.{reading_of, fresh, stepped, acted, StepAnswers, Acts, begin_rule, begin_alternative, next_alternative, end_rule, add_name, add_literal, item_added};
-ghost use Rattle.files.specs.States.{begun, opened, InAlternative};
+ghost use Rattle.files.specs.States.{opened, InAlternative};
 ghost use Rattle.files.specs.Faults.{granted};
 
 use crate::fault::{Fault, Span};

@@ -1,4 +1,4 @@
-use Rattle.std.proofs.Common.{◌≡◌, ℕ, ◌<◌, length, sym, refl, ap, ◌∙◌, subst, ap₂, arith}
+use Rattle.std.proofs.Common.{◌≡◌, ℕ, ◌<◌, length, sym, refl, ap, ◌∙◌, subst, arith}
 use Rattle.files.specs.Grammars.{Lists, lists_of}
 use Rattle.files.specs.Models.{Formed, NamesDiffer}
 use Rattle.files.specs.declared.fault.Fault.TheVariants.{EmptyCycle}
