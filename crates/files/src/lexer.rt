@@ -52,7 +52,7 @@ fn run_length<F: Fn(u8) -> bool>(bytes: &[u8], passes: F) -> usize
 
 // A place in the file where a byte stands.
 #[derive(Clone, Copy)]
-pub(crate) struct Start<'a> {
+struct Start<'a> {
     file: &'a [u8],
     at: usize,
     ghost inside: { at < length file.now },

@@ -26,6 +26,7 @@ impl<'a, const MOST: usize> Text<'a, MOST> {
         }
     }
 
+    // The bytes themselves.
     pub(crate) fn bytes(self) -> &'a [u8]
         ensures bytes { result.now ≡ self.entry.bytes.now }
         ensures short { length result.now ≤ MOST }
