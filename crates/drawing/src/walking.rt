@@ -4,7 +4,7 @@ ghost use Rattle.std.specs.Prelude.{◌≡◌, ℕ, ◌+◌, ◌-◌, ◌*◌, �
 use crate::descent::Descent;
 use crate::pending::Pending;
 use families::family::Family;
-use files::fault::Fault;
+use files::fault::{Fault, Span};
 use files::item::Item;
 
 // A walk along the layout of `name` that the list tells, with `read` choices read. Each pending tail was left at one.
@@ -56,10 +56,10 @@ impl<'w> Walk<'w> {
         ensures chosen { IfOk result (λ p. (self.new.read ≡ self.old.read + 1) × (p.slot ≡ 0)) }
     {
         let Some(choice) = self.list.get(self.read) else {
-            return Err(Fault::WrongEnd {
+            return Err(Fault::WrongEnd(Span {
                 place: self.list.len(),
                 length: 0,
-            });
+            }));
         };
         let choice = usize::from(*choice);
         let rule = self.descent.family.rule(y);
@@ -95,10 +95,10 @@ impl<'w> Walk<'w> {
         self.begin()?;
         while self.next_item()?.is_some() {}
         if self.read < self.list.len() {
-            return Err(Fault::WrongEnd {
+            return Err(Fault::WrongEnd(Span {
                 place: self.read,
                 length: 1,
-            });
+            }));
         }
         Ok(())
     }

@@ -15,7 +15,7 @@ Cyclic l x = OnClosedChain (model l) (nullable_set (model l)) x
 pub record OnCycle (l : Lists) (e : Fault) : Type 0 where
   pub name : ℕ
   pub defined : name < length l.rules
-  pub is : e ≡ EmptyCycle (rule_at l.rules name).label.place (rule_at l.rules name).label.length
+  pub is : e ≡ EmptyCycle (record { place = (rule_at l.rules name).label.place; length = (rule_at l.rules name).label.length })
   pub cycle : Cyclic l name
   pub first : (z : ℕ) → z < name → Cyclic l z → ⊥
 

@@ -34,11 +34,7 @@ impl Family {
         let marks = Marks::new(&draft);
         let chains = marks.chains();
         if let Some(cycle) = chains.first_cycle() {
-            let label = grammar.rule(cycle).label;
-            return Err(Fault::EmptyCycle {
-                place: label.place(),
-                length: label.length(),
-            });
+            return Err(Fault::EmptyCycle(grammar.rule(cycle).label.span()));
         }
         self.grammar.copy_from(grammar);
         self.nullable = marks.nullable;

@@ -28,8 +28,7 @@ impl Family {
         ensures value { result ≡ found_name self.now.grammar.rules.items name.now }
         ensures finds { Finds self.now.grammar.rules.items name.now result }
     {
-        let y = self.grammar.index(name);
-        if y < self.names() { Some(y) } else { None }
+        self.grammar.index(name)
     }
 
     // The rule of name y; one without alternatives where there is no such name.

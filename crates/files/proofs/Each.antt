@@ -1,16 +1,12 @@
 -- A list resolved in place, one element after another. Assumes nothing.
-use Rattle.std.proofs.Common.{◌≡◌, ℕ, zero, suc, ◌+◌, ◌<◌, ◌≤◌, List, [], ◌∷◌, ◌++◌, length, get_or, take, drop, set, sym, refl, ap, ◌∙◌, append_assoc, append-nil, add-zero, add-one, arith, length-set, take_all, drop-cons}
-use Rattle.std.proofs.lemmas.List.{take_more_set, drop-set-lt, drop_all, get_or-drop}
+use Rattle.std.proofs.Common.{◌≡◌, ℕ, ◌+◌, ◌<◌, List, [], ◌∷◌, ◌++◌, length, get_or, take, drop, set, sym, refl, ap, ◌∙◌, append_assoc, add-zero, add-one, arith, length-set, drop-cons}
+use Rattle.std.proofs.lemmas.List.{take_more_set, drop-drop, drop-set-lt, get_or-drop}
 use Rattle.files.specs.Faults.{Answer, granted, refused}
 use Rattle.files.specs.Files.{next, each}
 
 pub next_again : {X Y Z : Type 0} (a : Answer X) (f : X → Answer Y) (g : Y → Answer Z) → next (next a f) g ≡ next a (λ x. next (f x) g)
 next_again (granted x) f g = refl
 next_again (refused k p n) f g = refl
-
-next_unit : {X : Type 0} (a : Answer X) → next a (λ x. granted x) ≡ a
-next_unit (granted x) = refl
-next_unit (refused k p n) = refl
 
 module _ {X : Type 0} (f : X → Answer X) (xs : List X) where
   -- the first i are done, and the rest is as it was
@@ -19,11 +15,8 @@ module _ {X : Type 0} (f : X → Answer X) (xs : List X) where
     pub rest : drop i cur ≡ drop i xs
     pub so_far : each f xs ≡ next (each f (drop i xs)) (λ ys. granted (take i cur ++ ys))
 
-  pub begun : Partway 0 xs
-  begun = record { long = refl; rest = refl; so_far = sym (next_unit (each f xs)) }
-
   -- the element at i is still as it was
-  pub unread : (i : ℕ) (cur : List X) (d : X) → Partway i cur → get_or cur i d ≡ get_or xs i d
+  unread : (i : ℕ) (cur : List X) (d : X) → Partway i cur → get_or cur i d ≡ get_or xs i d
   unread i cur d p =
       let same : i + 0 ≡ i = add-zero i in
       ap (λ n. get_or cur n d) (sym same) ∙ sym (get_or-drop i cur 0 d) ∙ ap (λ l. get_or l 0 d) p.rest ∙ get_or-drop i xs 0 d ∙ ap (λ n. get_or xs n d) same
@@ -40,32 +33,10 @@ module _ {X : Type 0} (f : X → Answer X) (xs : List X) where
       let joined : (ys : List X) → take (i + 1) (set cur i y) ++ ys ≡ take i cur ++ (y ∷ ys) = λ ys. ap (λ l. l ++ ys) front ∙ append_assoc (take i cur) (y ∷ []) ys in
       record {
         long = length-set cur i y ∙ p.long;
-        rest = drop-set-lt (i + 1) cur i y (omega arith) ∙ later;
+        rest = drop-set-lt (i + 1) cur i y (omega arith) ∙ sym (drop-drop 1 i cur) ∙ ap (drop 1) p.rest ∙ drop-drop 1 i xs;
         so_far =
             p.so_far
             ∙ ap (λ a. next a (λ ys. granted (take i cur ++ ys))) (left i d h ∙ ap (λ a. next a (λ z. next (each f (drop (i + 1) xs)) (λ ys. granted (z ∷ ys)))) was)
             ∙ next_again (each f (drop (i + 1) xs)) (λ ys. granted (y ∷ ys)) (λ ys. granted (take i cur ++ ys))
             ∙ ap (λ g. next (each f (drop (i + 1) xs)) g) (λ j ys. granted (sym (joined ys) j));
       }
-    where
-      tails : (n : ℕ) (us vs : List X) → drop n us ≡ drop n vs → drop (suc n) us ≡ drop (suc n) vs
-      tails n us vs q = sym (drop_one n us) ∙ ap (drop 1) q ∙ drop_one n vs
-        where
-          drop_one : (m : ℕ) (l : List X) → drop 1 (drop m l) ≡ drop (suc m) l
-          drop_one zero l = refl
-          drop_one (suc m) [] = refl
-          drop_one (suc m) (x ∷ l) = drop_one m l
-
-      later : drop (i + 1) cur ≡ drop (i + 1) xs
-      later = ap (λ n. drop n cur) (add-one i) ∙ tails i cur xs p.rest ∙ ap (λ n. drop n xs) (sym (add-one i))
-
-  pub stopped : (i : ℕ) (cur : List X) (d : X) (k q n : ℕ) → i < length xs → Partway i cur → f (get_or cur i d) ≡ refused k q n → each f xs ≡ refused k q n
-  stopped i cur d k q n h p e =
-      let was : f (get_or xs i d) ≡ refused k q n = ap f (sym (unread i cur d p)) ∙ e in
-      p.so_far ∙ ap (λ a. next a (λ ys. granted (take i cur ++ ys))) (left i d h ∙ ap (λ a. next a (λ z. next (each f (drop (i + 1) xs)) (λ ys. granted (z ∷ ys)))) was)
-
-  pub done : (i : ℕ) (cur : List X) → length xs ≤ i → Partway i cur → each f xs ≡ granted cur
-  done i cur h p =
-      p.so_far
-      ∙ ap (λ l. next (each f l) (λ ys. granted (take i cur ++ ys))) (drop_all i xs h)
-      ∙ ap granted (append-nil (take i cur) ∙ take_all i cur (omega (arith, p.long)))

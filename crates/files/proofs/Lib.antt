@@ -1,7 +1,6 @@
 mod Digits
-mod Lookups
+mod Defaults
 mod Each
-mod Resolves
 pub mod Places
 pub mod Runs
 pub mod Facts

@@ -1,6 +1,5 @@
 -- What reading answers is what the file means. Assumes nothing.
-use Rattle.std.proofs.Common.{◌≡◌, ℕ, ◌+◌, ◌<◌, ◌≤◌, Bool, true, false, ltb, leb, ◌⊎◌, List, [], ◌∷◌, ◌++◌, length, drop, MatchBool, sym, refl, ap, ◌∙◌, subst, inl, inr, ⊎_elim, not-suc-le-zero}
-use mathlib.Core.Bool.{false≢true}
+use Rattle.std.proofs.Common.{◌≡◌, ◌≢◌, ℕ, ◌+◌, ◌<◌, ◌≤◌, Bool, true, false, ltb, leb, ◌⊎◌, List, [], ◌∷◌, ◌++◌, length, drop, MatchBool, sym, refl, ap, ◌∙◌, subst, inl, inr, ⊎_elim, not-suc-le-zero}
 use Rattle.std.proofs.lemmas.Bool.{cond_both, ltb-true, ltb-false, leb-true, leb-false}
 use Rattle.std.proofs.lemmas.List.{append-nil}
 use Rattle.files.specs.Faults.{Answer, refused}
@@ -11,7 +10,7 @@ use Rattle.files.specs.Steps.{Reading, fresh}
 use Rattle.files.specs.Files.{resolved, closed, Reads, ends, goes, stops, fails, ReadsFile}
 use Rattle.files.specs.Tokens.{Every, Token, token, width, written, NextToken, Tokens}
 use Rattle.files.specs.Sources.{SourceRule, names_of, alternatives_of, RulesTokens, Kept, rules_from, drafted, read_item}
-use Rattle.files.specs.Meanings.{RuleFile, Part, nothing, its_name, opened, awaiting, PartTokens, names_begun, alternatives_begun, BeginRules, Start, ReadTo, FirstUndefined, Refused, too_long, no_token, not_allowed, within_rule, name_taken, no_place, no_rule, undefined_name, Means}
+use Rattle.files.specs.Meanings.{RuleFile, Part, nothing, PartTokens, names_begun, alternatives_begun, BeginRules, Start, ReadTo, FirstUndefined, Refused, too_long, no_token, not_allowed, within_rule, name_taken, no_place, no_rule, undefined_name, Means}
 use Rattle.files.specs.declared.state.State.{State}
 use Rattle.files.specs.declared.state.State.TheVariants.{Outside}
 use Rattle.files.proofs.Spelling.{found_means, end_means, wrong_means}
@@ -88,22 +87,16 @@ module _ (f : List ℕ) (short : length f ≤ 16384) where
         kept = subst (λ (ns : List (List ℕ)). Kept ns (alternatives_of rs)) (append-nil (names_of rs)) (subst (Kept (names_of rs ++ [])) (append-nil (alternatives_of rs)) kept);
       }
 
-  abbrev begun : Part → Bool
-  begun nothing = false
-  begun (its_name s p) = true
-  begun (opened o) = true
-  begun (awaiting o) = true
-
   -- the reader stands between rules, or a rule is begun and the end does not fit
   whole_or_part : {st : State} {part : Part} (vs : List Token) → Stands vs st part →
-      ((st ≡ Outside) × (part ≡ nothing) × (vs ≡ [])) ⊎ (((l : Lists) (n : ℕ) → closed st l n ≡ refused 6 n 0) × (begun part ≡ true))
+      ((st ≡ Outside) × (part ≡ nothing) × (vs ≡ [])) ⊎ (((l : Lists) (n : ℕ) → closed st l n ≡ refused 6 n 0) × (part ≢ nothing))
   whole_or_part vs (outside e) = inl (refl, refl, e)
-  whole_or_part vs (named s p e) = inr ((λ l n. refl), refl)
-  whole_or_part vs (among_items o h) = inr ((λ l n. refl), refl)
-  whole_or_part vs (after_literal o h e) = inr ((λ l n. refl), refl)
-  whole_or_part vs (after_colon o us p e h none) = inr ((λ l n. refl), refl)
-  whole_or_part vs (after_size o h) = inr ((λ l n. refl), refl)
-  whole_or_part vs (after_at o us p e h) = inr ((λ l n. refl), refl)
+  whole_or_part vs (named s p e) = inr ((λ l n. refl), λ e. cc)
+  whole_or_part vs (among_items o h) = inr ((λ l n. refl), λ e. cc)
+  whole_or_part vs (after_literal o h e) = inr ((λ l n. refl), λ e. cc)
+  whole_or_part vs (after_colon o us p e h none) = inr ((λ l n. refl), λ e. cc)
+  whole_or_part vs (after_size o h) = inr ((λ l n. refl), λ e. cc)
+  whole_or_part vs (after_at o us p e h) = inr ((λ l n. refl), λ e. cc)
 
   end_of_file : (p : ℕ) (ts : List Token) → Tokens f 0 ts p → (r : Reading) → Shown r ts → Every blank (drop p f) → Means f (closed r.state r.lists (length f))
   end_of_file p ts row r h blanks = ⊎_elim
@@ -113,8 +106,8 @@ module _ (f : List ℕ) (short : length f ≤ 16384) where
       (subst (λ (l : Lists). Means f (closed Outside l (length f))) (sym lists)
       (rules_end p ts row blanks h.rules h.whole h.partial h.tokens h.are_rules t.2
       (subst (λ (part : Part). Kept (names_of h.rules ++ names_begun part) (alternatives_of h.rules ++ alternatives_begun part)) t.1 h.kept))))
-      (λ (t : ((l : Lists) (n : ℕ) → closed r.state l n ≡ refused 6 n 0) × (begun h.part ≡ true)).
-      subst (Means f) (sym (t.0 r.lists (length f))) (within_rule (read_to p ts row r h) blanks (λ e. false≢true (sym (ap begun e) ∙ t.1))))
+      (λ (t : ((l : Lists) (n : ℕ) → closed r.state l n ≡ refused 6 n 0) × (h.part ≢ nothing)).
+      subst (Means f) (sym (t.0 r.lists (length f))) (within_rule (read_to p ts row r h) blanks t.1))
       (whole_or_part h.partial h.stands)
 
   reads_mean : {p : ℕ} {r : Reading} {a : Answer Lists} → Reads f p r a → (ts : List Token) → Tokens f 0 ts p → Shown r ts → Goes Outside ts r.state → Means f a

@@ -326,12 +326,6 @@ wrong_means f p k q n e = subst (Says f p) e (says f p)
 
 -- Where a token ends
 
-pub after-token : (f : List ℕ) (p : ℕ) (t : Token) (h : NextToken f p t) → drop (t.place + width t) f ≡ h.rest
-after-token f p t h =
-    sym (drop-drop (width t) t.place f)
-    ∙ ap (drop (width t)) (behind f p t.place (written t.word ++ h.rest) h.stands)
-    ∙ drop_at (written t.word) h.rest (width t) refl
-
 written_some : (w : Word) → Proper w → 0 < length (written w)
 written_some (name []) h = absurd h.0
 written_some (name (b ∷ s)) h = omega arith
@@ -350,3 +344,13 @@ token_inside f p t l h =
     let some = written_some t.word h.proper in
     let n : length f - p ≡ length a.blanks + (width t + length h.rest) = omega (arith, length-drop p f, ap length a.bytes, length-append a.blanks (written t.word ++ h.rest), length-append (written t.word) h.rest) in
     (omega (arith, a.place), omega (arith, a.place))
+
+-- the scan looks at the first byte behind the blanks
+pub scan_at : (f : List ℕ) (p q : ℕ) → q ≡ p + prefix_len blank (drop p f) → q < length f → scan f p ≡ token_at f q
+scan_at f p q e l = ap (λ k. cond (ltb k (length f)) (token_at f k) end) (sym e) ∙ cond-true (ltb q (length f)) _ _ (lt-ltb q (length f) l)
+
+-- a token that was found lies in the file
+pub found_inside : (f : List ℕ) (p q m : ℕ) (w : Word) → p ≤ length f → scan f p ≡ found w q m → (p < q + m) × (q + m ≤ length f)
+found_inside f p q m w l e =
+    let t = found_means f p q m w e in
+    subst (λ (n : ℕ). (p < q + n) × (q + n ≤ length f)) (sym t.1) (token_inside f p (token w q) l t.0)

@@ -1,7 +1,5 @@
 -- The kinds of bytes in a family file. Assumes nothing.
 use Rattle.std.specs.Prelude.{ℕ, Bool, not, ◌&&◌, ◌||◌, ◌==◌, nat_le}
-use Rattle.files.specs.declared.lexer.Class.{Class}
-use Rattle.files.specs.declared.lexer.Class.TheVariants.{Blank, NameByte, DigitByte, PlainByte}
 
 -- space, tab, line feed, carriage return
 abbrev pub blank : ℕ → Bool
@@ -22,9 +20,3 @@ plain b = nat_le 0x20 b && (nat_le b 0x7e && not (b == 0x22))
 -- what may stand in a name, behind its first letter
 abbrev pub name_byte : ℕ → Bool
 name_byte b = letter b || (digit b || b == 0x5f)
-
-abbrev pub member : Class → ℕ → Bool
-member Blank b = blank b
-member NameByte b = name_byte b
-member DigitByte b = digit b
-member PlainByte b = plain b

@@ -8,5 +8,6 @@ pub mod Steps
 pub mod Files
 pub mod Models
 pub mod Tokens
+pub mod Starts
 pub mod Sources
 pub mod Meanings

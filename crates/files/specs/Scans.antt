@@ -1,5 +1,5 @@
 -- Tokens and their places in a file. Assumes nothing.
-use Rattle.std.specs.Prelude.{◌≡◌, ℕ, ◌+◌, ◌<◌, ◌≤◌, cond, ◌&&◌, List, length, take, drop, Some, None, Ok, Err, Option, Result, ◌==◌, nat_le, nat_lt, slice_index, slice_index_or}
+use Rattle.std.specs.Prelude.{ℕ, ◌+◌, cond, ◌&&◌, List, length, take, drop, Some, None, Ok, Err, Option, Result, ◌==◌, nat_le, nat_lt, slice_index, slice_index_or}
 use Rattle.std.specs.List.{prefix_len}
 use Rattle.files.specs.Bytes.{blank, letter, digit, plain, name_byte}
 use Rattle.files.specs.Faults.{fault_number, fault_place, fault_length}
@@ -20,9 +20,9 @@ pub data Word : Type 0 where
   at : Word
 
 abbrev pub word_of : Token → Word
-word_of (Name s) = name s.now
-word_of (Literal s) = literal s.now
-word_of (Digits s) = digits s.now
+word_of (Name t) = name t.bytes.now
+word_of (Literal t) = literal t.bytes.now
+word_of (Digits t) = digits t.bytes.now
 word_of Equals = equals
 word_of Bar = bar
 word_of Semicolon = semicolon
@@ -39,11 +39,7 @@ abbrev pub scan_fault : Fault → Scan
 scan_fault e = wrong (fault_number e) (fault_place e) (fault_length e)
 
 abbrev pub scan_token : Spanned → Scan
-scan_token s = found (word_of s.token) s.place s.length
-
-abbrev pub scan_found : Result Spanned Fault → Scan
-scan_found (Ok s) = scan_token s
-scan_found (Err e) = scan_fault e
+scan_token s = found (word_of s.token) s.at.place s.at.length
 
 abbrev pub scan_step : Option Spanned → Scan
 scan_step (Some s) = scan_token s
@@ -96,25 +92,3 @@ abbrev pub next_place : ℕ → ℕ → Scan → ℕ
 next_place p n end = n
 next_place p n (found w q m) = q + m
 next_place p n (wrong k q m) = p
-
--- how long a token's text may be
-abbrev pub Short : Word → Type 0
-Short (name s) = length s ≤ 24
-Short (literal s) = length s ≤ 24
-Short (digits s) = length s ≤ 4
-Short equals = Unit {0}
-Short bar = Unit {0}
-Short semicolon = Unit {0}
-Short colon = Unit {0}
-Short at = Unit {0}
-
--- a token that begins at p and lies in the file
-pub record Inside (f : List ℕ) (p : ℕ) (s : Spanned) : Type 0 where
-  pub place : s.place ≡ p
-  pub some : 0 < s.length
-  pub within : p + s.length ≤ length f
-  pub short : Short (word_of s.token)
-
-abbrev pub ShortStep : Option Spanned → Type 0
-ShortStep (Some s) = Short (word_of s.token)
-ShortStep None = Unit {0}

@@ -1,5 +1,5 @@
 -- How many rules and alternatives are begun and not yet stored. Assumes nothing.
-use Rattle.std.specs.Prelude.{ℕ}
+use Rattle.std.specs.Prelude.{◌≡◌, ℕ}
 use Rattle.files.specs.declared.state.State.{State}
 use Rattle.files.specs.declared.state.State.TheVariants.{Outside, Named, Items, AfterLiteral, AfterColon, AfterSize, AfterAt}
 
@@ -20,3 +20,7 @@ opened AfterLiteral = 1
 opened AfterColon = 1
 opened AfterSize = 1
 opened AfterAt = 1
+
+-- an alternative, and with it a rule, is begun
+abbrev pub InAlternative : State → Type 0
+InAlternative s = (begun s ≡ 1) × (opened s ≡ 1)

@@ -1,10 +1,11 @@
 -- How rules are read, token by token. Assumes nothing.
-use Rattle.std.specs.Prelude.{ℕ, ◌-◌, cond, ◌&&◌, List, [], ◌∷◌, ◌++◌, length, Ok, Err, Result, nat_lt}
+use Rattle.std.specs.Prelude.{◌≡◌, ℕ, ◌-◌, cond, ◌&&◌, List, [], ◌∷◌, ◌++◌, length, Ok, Err, Result, nat_lt}
 use Rattle.files.specs.Faults.{Answer, granted, refused, refusal}
 use Rattle.files.specs.Scans.{Word, name, literal, digits, equals, bar, semicolon, colon, at}
 use Rattle.files.specs.Items.{label_of, no_items, with_item, with_size, with_cost, decimal}
 use Rattle.files.specs.Grammars.{Lists, lists_of, no_lists, no_label, rule_index}
 use Rattle.files.specs.declared.fault.Fault.{Fault}
+use Rattle.files.specs.declared.fault.Span.{Span}
 use Rattle.files.specs.declared.item.Label.{Label}
 use Rattle.files.specs.declared.item.Item.{Item}
 use Rattle.files.specs.declared.item.Item.TheVariants.{Use, Literal}
@@ -153,7 +154,11 @@ acted unfit s r p n = refused 6 p n
 abbrev pub stepped : Reading → Word → ℕ → ℕ → Answer Reading
 stepped r w p n = acted (action r.state w) (said w) r p n
 
--- what a step answered, with the reading after it
-abbrev pub step_answer : Result (Unit {0}) Fault → Reading → Answer Reading
-step_answer (Ok x) r = granted r
-step_answer (Err e) r = refusal e
+-- a step from the reading r to the reading s answers a, and a refusal leaves the reading as it was
+abbrev pub StepAnswers : Result (Unit {0}) Fault → Reading → Reading → Answer Reading → Type 0
+StepAnswers (Ok x) r s a = granted s ≡ a
+StepAnswers (Err e) r s a = (refusal e ≡ a) × (s ≡ r)
+
+-- what an action does to a reader, with the text s of a token at the span
+abbrev pub Acts : Action → List ℕ → Span → Reader → Reader → Result (Unit {0}) Fault → Type 0
+Acts a s p q r answer = StepAnswers answer (reading_of q) (reading_of r) (acted a s (reading_of q) p.place p.length)

@@ -1,6 +1,16 @@
 // The refusals, one for each question that a call may ask.
 ghost use Rattle.std.specs.Prelude.{◌≡◌};
 ghost use Rattle.files.specs.Faults.{fault_number, fault_place, fault_length};
+ghost use Rattle.files.specs.declared.fault.Fault.TheVariants.{OutOfMemory};
+
+use std::alloc::AllocError;
+
+// A part of a file, or of a choice list: where it begins, and how far it reaches.
+#[derive(Clone, Copy)]
+pub struct Span {
+    pub place: usize,
+    pub length: usize,
+}
 
 // Which question was answered no, with what tells the place. `OutOfMemory` is no question:
 // it is given only where something is made.
@@ -8,15 +18,15 @@ ghost use Rattle.files.specs.Faults.{fault_number, fault_place, fault_length};
 pub enum Fault {
     FileTooLong,
     StrayByte { place: usize },
-    LongName { place: usize, length: usize },
+    LongName(Span),
     BadLiteral { place: usize },
-    LongDigits { place: usize, length: usize },
-    Unexpected { place: usize, length: usize },
-    NameTaken { place: usize, length: usize },
-    NoRoom { place: usize, length: usize },
+    LongDigits(Span),
+    Unexpected(Span),
+    NameTaken(Span),
+    NoRoom(Span),
     NoRule { place: usize },
-    UndefinedName { place: usize, length: usize },
-    EmptyCycle { place: usize, length: usize },
+    UndefinedName(Span),
+    EmptyCycle(Span),
     TopTooLarge,
     TableTooShort,
     WrongEntry { index: usize },
@@ -27,7 +37,7 @@ pub enum Fault {
     StackTooShort,
     ListTooShort,
     UnknownChoice { place: usize },
-    WrongEnd { place: usize, length: usize },
+    WrongEnd(Span),
     PageTooShort,
     BadRange,
     NothingDue,
@@ -43,15 +53,15 @@ impl Fault {
         match self {
             Fault::FileTooLong => 1,
             Fault::StrayByte { .. } => 2,
-            Fault::LongName { .. } => 3,
+            Fault::LongName(_) => 3,
             Fault::BadLiteral { .. } => 4,
-            Fault::LongDigits { .. } => 5,
-            Fault::Unexpected { .. } => 6,
-            Fault::NameTaken { .. } => 7,
-            Fault::NoRoom { .. } => 8,
+            Fault::LongDigits(_) => 5,
+            Fault::Unexpected(_) => 6,
+            Fault::NameTaken(_) => 7,
+            Fault::NoRoom(_) => 8,
             Fault::NoRule { .. } => 9,
-            Fault::UndefinedName { .. } => 10,
-            Fault::EmptyCycle { .. } => 11,
+            Fault::UndefinedName(_) => 10,
+            Fault::EmptyCycle(_) => 11,
             Fault::TopTooLarge => 12,
             Fault::TableTooShort => 13,
             Fault::WrongEntry { .. } => 14,
@@ -62,7 +72,7 @@ impl Fault {
             Fault::StackTooShort => 19,
             Fault::ListTooShort => 20,
             Fault::UnknownChoice { .. } => 21,
-            Fault::WrongEnd { .. } => 22,
+            Fault::WrongEnd(_) => 22,
             Fault::PageTooShort => 23,
             Fault::BadRange => 24,
             Fault::NothingDue => 25,
@@ -77,18 +87,18 @@ impl Fault {
     {
         match self {
             Fault::StrayByte { place } => place,
-            Fault::LongName { place, .. } => place,
             Fault::BadLiteral { place } => place,
-            Fault::LongDigits { place, .. } => place,
-            Fault::Unexpected { place, .. } => place,
-            Fault::NameTaken { place, .. } => place,
-            Fault::NoRoom { place, .. } => place,
             Fault::NoRule { place } => place,
-            Fault::UndefinedName { place, .. } => place,
-            Fault::EmptyCycle { place, .. } => place,
-            Fault::WrongEntry { index } => index,
             Fault::UnknownChoice { place } => place,
-            Fault::WrongEnd { place, .. } => place,
+            Fault::WrongEntry { index } => index,
+            Fault::LongName(at)
+            | Fault::LongDigits(at)
+            | Fault::Unexpected(at)
+            | Fault::NameTaken(at)
+            | Fault::NoRoom(at)
+            | Fault::UndefinedName(at)
+            | Fault::EmptyCycle(at)
+            | Fault::WrongEnd(at) => at.place,
             _ => 0,
         }
     }
@@ -98,19 +108,28 @@ impl Fault {
         ensures { result ≡ fault_length self }
     {
         match self {
-            Fault::StrayByte { .. } => 1,
-            Fault::LongName { length, .. } => length,
-            Fault::BadLiteral { .. } => 1,
-            Fault::LongDigits { length, .. } => length,
-            Fault::Unexpected { length, .. } => length,
-            Fault::NameTaken { length, .. } => length,
-            Fault::NoRoom { length, .. } => length,
-            Fault::UndefinedName { length, .. } => length,
-            Fault::EmptyCycle { length, .. } => length,
-            Fault::WrongEntry { .. } => 1,
-            Fault::UnknownChoice { .. } => 1,
-            Fault::WrongEnd { length, .. } => length,
+            Fault::StrayByte { .. }
+            | Fault::BadLiteral { .. }
+            | Fault::WrongEntry { .. }
+            | Fault::UnknownChoice { .. } => 1,
+            Fault::LongName(at)
+            | Fault::LongDigits(at)
+            | Fault::Unexpected(at)
+            | Fault::NameTaken(at)
+            | Fault::NoRoom(at)
+            | Fault::UndefinedName(at)
+            | Fault::EmptyCycle(at)
+            | Fault::WrongEnd(at) => at.length,
             _ => 0,
         }
+    }
+}
+
+// Want of memory is a refusal too.
+impl From<AllocError> for Fault {
+    ghost from_gives = { λ _ e. e ≡ OutOfMemory };
+
+    fn from(_e: AllocError) -> Fault {
+        Self::OutOfMemory
     }
 }

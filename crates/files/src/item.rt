@@ -1,10 +1,13 @@
 // Items, alternatives and rules: plain values, passed and stored as such.
-ghost use Rattle.std.specs.Prelude.{◌≡◌, ℕ, ◌+◌, ◌-◌, ◌*◌, ◌<◌, ◌≤◌, [], ◌∷◌, length, replicate};
+ghost use Rattle.std.specs.Prelude.{◌≡◌, ◌-◌, ◌<◌, ◌≤◌};
 ghost use Rattle.std.specs.Str.{bytes_eq};
 ghost use Rattle.files.specs.Items.{label_of, text_of, item_at, no_items, with_item, with_put, with_size, with_cost, resized, recosted, decimal};
 
+use crate::fault::Span;
+use crate::text::{DigitRun, Word};
+
 // A name or a literal's text, as it was read, with the place in the file where its token begins.
-#[derive(Clone, Copy)]
+#[derive(Clone, Copy, Default)]
 pub struct Label {
     bytes: [u8; 24],
     length: usize,
@@ -12,13 +15,13 @@ pub struct Label {
 }
 
 impl Label {
-    pub(crate) fn new(text: &[u8], place: usize) -> Label
-        requires { length text.now ≤ 24 }
-        ensures { result ≡ label_of text.now place }
+    pub(crate) fn new(text: Word<'_>, place: usize) -> Label
+        ensures { result ≡ label_of text.entry.bytes.now place }
     {
+        let text = text.bytes();
         let length = text.len();
         let mut bytes = [0u8; 24];
-        bytes[0..length].copy_from_slice(text);
+        bytes[..length].copy_from_slice(text);
         Label {
             bytes,
             length,
@@ -30,7 +33,7 @@ impl Label {
         ensures { result.now ≡ text_of self.now }
     {
         let end = self.length.min(24);
-        &self.bytes[0..end]
+        &self.bytes[..end]
     }
 
     pub fn place(&self) -> usize
@@ -45,6 +48,16 @@ impl Label {
         self.length
     }
 
+    // Where the text of a name stands in the file.
+    pub fn span(&self) -> Span
+        ensures { result ≡ record { place = self.now.place; length = self.now.length } }
+    {
+        Span {
+            place: self.place,
+            length: self.length,
+        }
+    }
+
     // Whether the label says `text`.
     pub(crate) fn says(&self, text: &[u8]) -> bool
         ensures { result ≡ bytes_eq (text_of self.now) text.now }
@@ -55,8 +68,9 @@ impl Label {
 
 // What stands in one of an alternative's six places. `Use` is a name as it was read, by its label;
 // `Name` is a name by its number.
-#[derive(Clone, Copy)]
+#[derive(Clone, Copy, Default)]
 pub enum Item {
+    #[default]
     Vacant,
     Use { label: usize },
     Name { number: usize },
@@ -86,7 +100,7 @@ impl Item {
 }
 
 // Up to six items; `first` is the number of the first through the whole file.
-#[derive(Clone, Copy)]
+#[derive(Clone, Copy, Default)]
 pub struct Alternative {
     pub items: [Item; 6],
     pub count: usize,
@@ -98,9 +112,8 @@ impl Alternative {
         ensures { result ≡ no_items first }
     {
         Alternative {
-            items: [Item::Vacant; 6],
-            count: 0,
             first,
+            ..Alternative::default()
         }
     }
 
@@ -108,7 +121,7 @@ impl Alternative {
     pub fn item(self, i: usize) -> Item
         ensures { result ≡ item_at self i }
     {
-        if i < 6 { self.items[i] } else { Item::Vacant }
+        self.items.get(i).copied().unwrap_or_default()
     }
 
     // The alternative with one item more.
@@ -121,7 +134,7 @@ impl Alternative {
         Alternative {
             items,
             count: self.count + 1,
-            first: self.first,
+            ..self
         }
     }
 
@@ -133,32 +146,35 @@ impl Alternative {
         if i < 6 {
             items[i] = item;
         }
-        Alternative {
-            items,
-            count: self.count,
-            first: self.first,
-        }
+        Alternative { items, ..self }
+    }
+
+    // The alternative with its last item changed.
+    fn with_last<F: FnOnce(Item) -> Item>(self, change: F) -> Alternative
+        requires { F.IsAlwaysCallable change }
+        ensures { (item : Item) × F.post change (item_at self (self.count - 1)) item × (result ≡ with_put self (self.count - 1) item) }
+    {
+        let last = self.count.saturating_sub(1);
+        self.with_put(last, change(self.item(last)))
     }
 
     // The alternative with another size for its last item.
     pub(crate) fn with_size(self, size: u32) -> Alternative
         ensures { result ≡ with_size self size }
     {
-        let last = self.count.saturating_sub(1);
-        self.with_put(last, self.item(last).resized(size))
+        self.with_last(|item| item.resized(size))
     }
 
     // The alternative with another cost for its last item.
     pub(crate) fn with_cost(self, cost: u32) -> Alternative
         ensures { result ≡ with_cost self cost }
     {
-        let last = self.count.saturating_sub(1);
-        self.with_put(last, self.item(last).recosted(cost))
+        self.with_last(|item| item.recosted(cost))
     }
 }
 
 // A rule: its name, and its alternatives from `first` on.
-#[derive(Clone, Copy)]
+#[derive(Clone, Copy, Default)]
 pub struct Rule {
     pub label: Label,
     pub first: usize,
@@ -169,16 +185,17 @@ fn digit_value(b: u8) -> u32
     ensures value { result ≡ b - 48 }
     ensures small { result ≤ 207 }
 {
-    u32::from(b).saturating_sub(48)
+    u32::from(b.saturating_sub(b'0'))
 }
 
 // The number that a run of one to four digits stands for.
-pub(crate) fn decimal_value(run: &[u8]) -> u32
-    requires { length run.now ≤ 4 }
-    ensures { result ≡ decimal run.now }
+#[tactic(auto, using(crate::proofs::Digits::few))]
+pub(crate) fn decimal_value(run: DigitRun<'_>) -> u32
+    ensures { result ≡ decimal run.entry.bytes.now }
 {
+    let bytes = run.bytes();
     let mut value = 0;
-    for b in run {
+    for b in bytes {
         value = value * 10 + digit_value(*b);
     }
     value

@@ -1,19 +1,18 @@
 // Tokens out of bytes: blanks are passed over, and each token is as long as it can be.
-ghost use Rattle.std.specs.Prelude.{◌≡◌, ◌+◌, ◌<◌, ◌≤◌, true, length, drop, is_some, IfOk};
+ghost use Rattle.std.specs.Prelude.{◌≡◌, ℕ, Bool, ◌<◌, ◌≤◌, length, drop};
 ghost use Rattle.std.specs.List.{prefix_len};
-ghost use Rattle.files.specs.Bytes.{letter, digit, member};
-ghost use Rattle.files.specs.Scans.{Inside, scan_of, scan_found, name_at, digits_at, literal_at, token_at, scan, next_place, ShortStep};
+ghost use Rattle.files.specs.Bytes.{blank, letter, digit, name_byte, plain};
+ghost use Rattle.files.specs.Scans.{scan_of, name_at, digits_at, literal_at, token_at, scan, next_place};
+ghost use Rattle.files.specs.Starts.{Computes, RunAt, token_found};
 
-use crate::fault::Fault;
+use crate::fault::{Fault, Span};
+use crate::text::Text;
 use crate::token::{Spanned, Token};
 
-// The kinds of bytes that runs are made of.
-#[derive(Clone, Copy)]
-pub(crate) enum Class {
-    Blank,
-    NameByte,
-    DigitByte,
-    PlainByte,
+fn is_blank(b: u8) -> bool
+    ensures { result ≡ blank b }
+{
+    matches!(b, b' ' | b'\t' | b'\n' | b'\r')
 }
 
 fn is_letter(b: u8) -> bool
@@ -28,137 +27,101 @@ fn is_digit(b: u8) -> bool
     b.is_ascii_digit()
 }
 
-fn belongs(class: Class, b: u8) -> bool
-    ensures { result ≡ member class b }
+// Whether the byte may stand in a name, behind its first letter.
+fn is_name_byte(b: u8) -> bool
+    ensures { result ≡ name_byte b }
 {
-    match class {
-        Class::Blank => b == b' ' || b == b'\t' || b == b'\n' || b == b'\r',
-        Class::NameByte => is_letter(b) || is_digit(b) || b == b'_',
-        Class::DigitByte => is_digit(b),
-        Class::PlainByte => b' ' <= b && b <= b'~' && b != b'"',
-    }
+    is_letter(b) || is_digit(b) || b == b'_'
 }
 
-// Where the longest run of the class that begins at `at` ends.
-fn run_end(file: &[u8], at: usize, class: Class) -> usize
-    requires { at ≤ length file.now }
-    ensures value { result ≡ at + prefix_len (member class) (drop at file.now) }
-    ensures within { result ≤ length file.now }
+// Whether the byte may stand in a literal.
+fn is_plain(b: u8) -> bool
+    ensures { result ≡ plain b }
 {
-    let mut i = at;
-    while i < file.len() && belongs(class, file[i]) {
-        i += 1;
-    }
-    i
+    b' ' <= b && b <= b'~' && b != b'"'
 }
 
-fn name_from<'a>(file: &'a [u8], start: usize) -> Result<Spanned<'a>, Fault>
-    requires { start < length file.now }
-    ensures value { scan_found result ≡ name_at file.now start }
-    ensures within { IfOk result (λ s. Inside file.now start s) }
+// How long the run of bytes that pass the test is, at the front of `bytes`.
+fn run_length<F: Fn(u8) -> bool>(bytes: &[u8], passes: F) -> usize
+    requires { F.IsAlwaysCallable passes }
+    ensures value { (p : ℕ → Bool) → Computes (F.post passes) p → result ≡ prefix_len p bytes.now }
+    ensures within { result ≤ length bytes.now }
 {
-    let end = run_end(file, start + 1, Class::NameByte);
-    let length = end - start;
-    if length > 24 {
-        return Err(Fault::LongName {
-            place: start,
-            length,
-        });
-    }
-    Ok(Spanned {
-        token: Token::Name(&file[start..end]),
-        place: start,
-        length,
-    })
+    bytes.iter().take_while(|b| passes(**b)).count()
 }
 
-fn digits_from<'a>(file: &'a [u8], start: usize) -> Result<Spanned<'a>, Fault>
-    requires { start < length file.now }
-    ensures value { scan_found result ≡ digits_at file.now start }
-    ensures within { IfOk result (λ s. Inside file.now start s) }
-{
-    let end = run_end(file, start + 1, Class::DigitByte);
-    let length = end - start;
-    if length > 4 {
-        return Err(Fault::LongDigits {
-            place: start,
-            length,
-        });
-    }
-    Ok(Spanned {
-        token: Token::Digits(&file[start..end]),
-        place: start,
-        length,
-    })
+// A place in the file where a byte stands.
+#[derive(Clone, Copy)]
+struct Start<'a> {
+    file: &'a [u8],
+    at: usize,
+    ghost inside: { at < length file.now },
 }
 
-fn literal_from<'a>(file: &'a [u8], start: usize) -> Result<Spanned<'a>, Fault>
-    requires { start < length file.now }
-    ensures value { scan_found result ≡ literal_at file.now start }
-    ensures within { IfOk result (λ s. Inside file.now start s) }
-{
-    let inner = start + 1;
-    let end = run_end(file, inner, Class::PlainByte);
-    if end - inner > 24 {
-        return Err(Fault::BadLiteral { place: start });
+impl<'a> Start<'a> {
+    // The text that begins here and goes on with bytes that pass the test; its span, if it is too long.
+    fn run<const MOST: usize, F: Fn(u8) -> bool>(self, passes: F) -> Result<Text<'a, MOST>, Span>
+        requires { F.IsAlwaysCallable passes }
+        ensures { (p : ℕ → Bool) → Computes (F.post passes) p → RunAt p MOST self.entry.file.now self.entry.at result }
+    {
+        let length = 1 + run_length(&self.file[self.at + 1..], passes);
+        let run = &self.file[self.at..self.at + length];
+        Text::new(run).ok_or(Span {
+            place: self.at,
+            length,
+        })
     }
-    if end >= file.len() {
-        return Err(Fault::BadLiteral { place: start });
-    }
-    if file[end] != b'"' {
-        return Err(Fault::BadLiteral { place: start });
-    }
-    Ok(Spanned {
-        token: Token::Literal(&file[inner..end]),
-        place: start,
-        length: end - start + 1,
-    })
-}
 
-// The token that begins at `start`, told by its first character.
-fn token_from<'a>(file: &'a [u8], start: usize) -> Result<Spanned<'a>, Fault>
-    requires { start < length file.now }
-    ensures value { scan_found result ≡ token_at file.now start }
-    ensures within { IfOk result (λ s. Inside file.now start s) }
-{
-    let b = file[start];
-    let place = start;
-    let length = 1;
-    match b as char {
-        '=' => Ok(Spanned {
-            token: Token::Equals,
-            place,
-            length,
-        }),
-        '|' => Ok(Spanned {
-            token: Token::Bar,
-            place,
-            length,
-        }),
-        ';' => Ok(Spanned {
-            token: Token::Semicolon,
-            place,
-            length,
-        }),
-        ':' => Ok(Spanned {
-            token: Token::Colon,
-            place,
-            length,
-        }),
-        '@' => Ok(Spanned {
-            token: Token::At,
-            place,
-            length,
-        }),
-        '"' => literal_from(file, start),
-        _ => {
-            if is_letter(b) {
-                name_from(file, start)
-            } else if is_digit(b) {
-                digits_from(file, start)
-            } else {
-                Err(Fault::StrayByte { place })
-            }
+    // The name that begins here.
+    fn name(self) -> Result<Token<'a>, Fault>
+        ensures { token_found self.entry.at result ≡ name_at self.entry.file.now self.entry.at }
+    {
+        match self.run(is_name_byte) {
+            Ok(text) => Ok(Token::Name(text)),
+            Err(at) => Err(Fault::LongName(at)),
+        }
+    }
+
+    // The digit run that begins here.
+    fn digits(self) -> Result<Token<'a>, Fault>
+        ensures { token_found self.entry.at result ≡ digits_at self.entry.file.now self.entry.at }
+    {
+        match self.run(is_digit) {
+            Ok(run) => Ok(Token::Digits(run)),
+            Err(at) => Err(Fault::LongDigits(at)),
+        }
+    }
+
+    // The literal whose opening mark stands here.
+    fn literal(self) -> Result<Token<'a>, Fault>
+        ensures { token_found self.entry.at result ≡ literal_at self.entry.file.now self.entry.at }
+    {
+        let inner = &self.file[self.at + 1..];
+        let length = run_length(inner, is_plain);
+        if inner.get(length) != Some(&b'"') {
+            return Err(Fault::BadLiteral { place: self.at });
+        }
+        match Text::new(&inner[..length]) {
+            Some(text) => Ok(Token::Literal(text)),
+            None => Err(Fault::BadLiteral { place: self.at }),
+        }
+    }
+
+    // The token that begins here, told by its first character.
+    fn token(self) -> Result<Token<'a>, Fault>
+        ensures { token_found self.entry.at result ≡ token_at self.entry.file.now self.entry.at }
+    {
+        let b = self.file[self.at];
+        match b as char {
+            '=' => Ok(Token::Equals),
+            '|' => Ok(Token::Bar),
+            ';' => Ok(Token::Semicolon),
+            ':' => Ok(Token::Colon),
+            '@' => Ok(Token::At),
+            '"' => self.literal(),
+            _ if is_letter(b) => self.name(),
+            _ if is_digit(b) => self.digits(),
+            _ => Err(Fault::StrayByte { place: self.at }),
         }
     }
 }
@@ -182,18 +145,23 @@ impl<'a> Lexer<'a> {
     pub(crate) fn next_token(&mut self) -> Result<Option<Spanned<'a>>, Fault>
         ensures value { scan_of result ≡ scan self.old.file.now self.old.at }
         ensures moved { self.new.at ≡ next_place self.old.at (length self.old.file.now) (scan_of result) }
-        ensures onward { IfOk result (λ o. (is_some o ≡ true → self.old.at < self.new.at)) }
-        ensures short { IfOk result (λ o. ShortStep o) }
         ensures same { self.new.file.now ≡ self.old.file.now }
     {
-        let file = self.file;
-        let start = run_end(file, self.at, Class::Blank);
-        if start >= file.len() {
-            self.at = start;
+        let at = self.at + run_length(&self.file[self.at..], is_blank);
+        if at == self.file.len() {
+            self.at = at;
             return Ok(None);
         }
-        let found = token_from(file, start)?;
-        self.at = start + found.length;
-        Ok(Some(found))
+        let start = Start {
+            file: self.file,
+            at,
+        };
+        let token = start.token()?;
+        let length = token.length();
+        self.at = at + length;
+        Ok(Some(Spanned {
+            token,
+            at: Span { place: at, length },
+        }))
     }
 }

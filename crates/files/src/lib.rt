@@ -11,4 +11,5 @@ pub mod reading;
 pub mod rules;
 pub mod state;
 pub mod steps;
+pub mod text;
 pub mod token;

@@ -1,14 +1,13 @@
 // The reader of files.
-ghost use Rattle.std.specs.Prelude.{◌≡◌, ℕ, ◌+◌, ◌<◌, ◌≤◌, true, length, is_err, vec_len, MatchResult, nat_lt};
+ghost use Rattle.std.specs.Prelude.{◌≡◌, true, length, is_err, MatchResult, nat_lt};
 ghost use Rattle.files.specs.declared.fault.Fault.TheVariants.{OutOfMemory};
 ghost use Rattle.files.specs.Grammars.{Lists, lists_of, no_lists};
 ghost use Rattle.files.specs.Faults.{Answer, answer};
-ghost use Rattle.files.specs.Steps.{reading_of, step_answer};
 ghost use Rattle.files.specs.Files.{resolved_item, resolved_alternative, resolved, closed, ReadsFile, read_file, lists_answer};
 ghost use Rattle.files.specs.Meanings.{Means};
 
 use crate::draft::Draft;
-use crate::fault::Fault;
+use crate::fault::{Fault, Span};
 use crate::grammar::Grammar;
 use crate::item::{Alternative, Item};
 use crate::lexer::Lexer;
@@ -32,14 +31,9 @@ impl Grammar {
             return Ok(item);
         };
         let label = self.label(label);
-        let number = self.index(label.text());
-        if number < self.rules.len() {
-            Ok(Item::Name { number })
-        } else {
-            Err(Fault::UndefinedName {
-                place: label.place(),
-                length: label.length(),
-            })
+        match self.index(label.text()) {
+            Some(number) => Ok(Item::Name { number }),
+            None => Err(Fault::UndefinedName(label.span())),
         }
     }
 
@@ -47,8 +41,8 @@ impl Grammar {
         ensures { answer (λ a. a) result ≡ resolved_alternative self.now.rules.items self.now.labels.items alternative }
     {
         let mut resolved = alternative;
-        for i in 0..6 {
-            resolved.items[i] = self.resolve(resolved.items[i])?;
+        for (i, item) in alternative.items.iter().enumerate() {
+            resolved.items[i] = self.resolve(*item)?;
         }
         Ok(resolved)
     }
@@ -58,8 +52,7 @@ impl Grammar {
         ensures { lists_answer result (lists_of self.new) ≡ resolved (lists_of self.old) }
     {
         for a in 0..self.alternatives.len() {
-            let resolved = self.resolve_alternative(self.alternatives[a])?;
-            self.alternatives[a] = resolved;
+            self.alternatives[a] = self.resolve_alternative(self.alternatives[a])?;
         }
         Ok(())
     }
@@ -70,14 +63,13 @@ impl Reader {
     fn finish(&mut self, end: usize) -> Result<(), Fault>
         ensures { lists_answer result (lists_of self.new.grammar) ≡ closed self.old.state (lists_of self.old.grammar) end }
     {
-        match self.state {
-            State::Outside => {}
-            _ => return Err(Fault::Unexpected {
+        if self.state != State::Outside {
+            return Err(Fault::Unexpected(Span {
                 place: end,
                 length: 0,
-            }),
+            }));
         }
-        if self.grammar.rules.len() == 0 {
+        if self.grammar.rules.is_empty() {
             return Err(Fault::NoRule { place: end });
         }
         self.grammar.resolve_all()
@@ -89,9 +81,10 @@ impl Draft {
     pub fn new(heap: Global) -> Result<Draft, Fault>
         ensures { MatchResult result (λ d. lists_of d.grammar ≡ no_lists) (λ e. e ≡ OutOfMemory) }
     {
-        let grammar = Grammar::new(heap)?;
-        let reader = Reader::new(heap)?;
-        Ok(Draft { grammar, reader })
+        Ok(Draft {
+            grammar: Grammar::new(heap)?,
+            reader: Reader::new(heap)?,
+        })
     }
 
     // Fills the draft anew from a family file; a refusal leaves it as it was.

@@ -1,9 +1,7 @@
 // What is made of a grammar and read from it.
-ghost use Rattle.std.specs.Prelude.{◌≡◌, ℕ, ◌+◌, ◌<◌, ◌≤◌, [], length, vec_len, vec_capacity, MatchResult};
-ghost use Rattle.std.specs.List.{prefix_len};
-ghost use Rattle.files.specs.Grammars.{lists_of, no_lists, differs, rule_index, rule_at, alternative_at, label_at, no_rule, no_label};
+ghost use Rattle.std.specs.Prelude.{◌≡◌, ◌<◌, ◌≤◌, length, vec_len, vec_capacity, IfSome, MatchResult};
+ghost use Rattle.files.specs.Grammars.{lists_of, no_lists, rule_at, alternative_at, label_at, found_name};
 ghost use Rattle.files.specs.declared.fault.Fault.TheVariants.{OutOfMemory};
-ghost use Rattle.files.specs.Items.{no_items};
 
 use crate::fault::Fault;
 use crate::grammar::Grammar;
@@ -18,9 +16,7 @@ fn copy_all<T: Copy>(to: &mut Vec<T>, from: &[T])
     ensures capacity { vec_capacity to.old ≤ vec_capacity to.new }
 {
     to.clear();
-    if let Err(_) = to.extend_from_slice(from) {
-        unreachable()
-    }
+    to.extend_from_slice(from).unwrap();
 }
 
 impl Grammar {
@@ -28,19 +24,10 @@ impl Grammar {
     pub fn new(heap: Global) -> Result<Grammar, Fault>
         ensures { MatchResult result (λ g. lists_of g ≡ no_lists) (λ e. e ≡ OutOfMemory) }
     {
-        let Ok(rules) = Vec::with_capacity(heap, 32) else {
-            return Err(Fault::OutOfMemory);
-        };
-        let Ok(alternatives) = Vec::with_capacity(heap, 64) else {
-            return Err(Fault::OutOfMemory);
-        };
-        let Ok(labels) = Vec::with_capacity(heap, 128) else {
-            return Err(Fault::OutOfMemory);
-        };
         Ok(Grammar {
-            rules,
-            alternatives,
-            labels,
+            rules: Vec::with_capacity(heap, 32)?,
+            alternatives: Vec::with_capacity(heap, 64)?,
+            labels: Vec::with_capacity(heap, 128)?,
         })
     }
 
@@ -62,53 +49,34 @@ impl Grammar {
         copy_all(&mut self.labels, other.labels.as_slice());
     }
 
-    // The number of the rule of that name, or how many rules there are.
-    pub fn index(&self, text: &[u8]) -> usize
-        ensures value { result ≡ rule_index self.now.rules.items text.now }
-        ensures within { result ≤ vec_len self.now.rules }
+    // The number of the rule of that name, if there is one.
+    pub fn index(&self, text: &[u8]) -> Option<usize>
+        ensures value { result ≡ found_name self.now.rules.items text.now }
+        ensures within { IfSome result (λ y. y < vec_len self.now.rules) }
     {
-        for (y, rule) in self.rules.iter().enumerate() {
-            if rule.label.says(text) {
-                return y;
-            }
-        }
-        self.rules.len()
+        self.rules.iter().position(|rule| rule.label.says(text))
     }
 
     // Rule y; one without alternatives past the last.
+    #[tactic(auto, using(crate::proofs::Defaults::rule_default))]
     pub fn rule(&self, y: usize) -> Rule
         ensures { result ≡ rule_at self.now.rules.items y }
     {
-        if y < self.rules.len() {
-            self.rules[y]
-        } else {
-            Rule {
-                label: Label::new(&[], 0),
-                first: 0,
-                count: 0,
-            }
-        }
+        self.rules.get(y).copied().unwrap_or_default()
     }
 
     // Alternative a of all; one without items past the last.
     pub fn alternative(&self, a: usize) -> Alternative
         ensures { result ≡ alternative_at self.now.alternatives.items a }
     {
-        if a < self.alternatives.len() {
-            self.alternatives[a]
-        } else {
-            Alternative::new(0)
-        }
+        self.alternatives.get(a).copied().unwrap_or_default()
     }
 
     // The label of item j; an empty one past the last.
+    #[tactic(auto, using(crate::proofs::Defaults::label_default))]
     pub fn label(&self, j: usize) -> Label
         ensures { result ≡ label_at self.now.labels.items j }
     {
-        if j < self.labels.len() {
-            self.labels[j]
-        } else {
-            Label::new(&[], 0)
-        }
+        self.labels.get(j).copied().unwrap_or_default()
     }
 }

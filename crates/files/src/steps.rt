@@ -1,27 +1,29 @@
 // The steps of the rule reader: it decides on its own state and the token together.
-ghost use Rattle.std.specs.Prelude.{◌≡◌, ℕ, ◌+◌, ◌<◌, ◌≤◌, true, [], length, is_err, vec_len, MatchResult};
+ghost use Rattle.std.specs.Prelude.{◌≡◌, [], MatchResult};
 ghost use Rattle.files.specs.declared.fault.Fault.TheVariants.{OutOfMemory};
-ghost use Rattle.files.specs.Scans.{word_of, Short};
-ghost use Rattle.files.specs.Steps.{reading_of, fresh, stepped, acted, step_answer, begin_rule, begin_alternative, next_alternative, end_rule, add_name, add_literal, item_added};
-ghost use Rattle.files.specs.States.{begun};
+ghost use Rattle.files.specs.Scans.{word_of};
+ghost use Rattle.files.specs.Steps.{reading_of, fresh, stepped, acted, StepAnswers, Acts, begin_rule, begin_alternative, next_alternative, end_rule, add_name, add_literal, item_added};
+ghost use Rattle.files.specs.States.{opened, InAlternative};
 ghost use Rattle.files.specs.Faults.{granted};
 
-use crate::fault::Fault;
+use crate::fault::{Fault, Span};
 use crate::grammar::Grammar;
 use crate::item::{Alternative, Item, Label, Rule, decimal_value};
 use crate::reader::Reader;
 use crate::state::State;
+use crate::text::Word;
 use crate::token::{Spanned, Token};
 use std::alloc::Global;
 
 impl Reader {
+    #[tactic(auto, using(crate::proofs::Defaults::label_default))]
     pub(crate) fn new(heap: Global) -> Result<Reader, Fault>
         ensures { MatchResult result (λ v. reading_of v ≡ fresh) (λ e. e ≡ OutOfMemory) }
     {
         let grammar = Grammar::new(heap)?;
         Ok(Reader {
             state: State::Outside,
-            name: Label::new(&[], 0),
+            name: Label::default(),
             first: 0,
             current: Alternative::new(0),
             grammar,
@@ -29,66 +31,50 @@ impl Reader {
     }
 
     // Ready for a new file.
+    #[tactic(auto, using(crate::proofs::Defaults::label_default))]
     pub(crate) fn restart(&mut self)
         ensures { reading_of self.new ≡ fresh }
     {
         self.state = State::Outside;
-        self.name = Label::new(&[], 0);
+        self.name = Label::default();
         self.first = 0;
         self.current = Alternative::new(0);
         self.grammar.clear();
     }
 
-    fn begin_rule(&mut self, text: &[u8], place: usize, width: usize) -> Result<(), Fault>
-        requires short { length text.now ≤ 24 }
-        ensures value { step_answer result (reading_of self.new) ≡ acted begin_rule text.now (reading_of self.old) place width }
-        ensures same { is_err result ≡ true → reading_of self.new ≡ reading_of self.old }
+    fn begin_rule(&mut self, text: Word<'_>, at: Span) -> Result<(), Fault>
+        ensures { Acts begin_rule text.entry.bytes.now at self.old self.new result }
     {
-        let rules = self.grammar.rules.len();
-        if self.grammar.index(text) < rules {
-            return Err(Fault::NameTaken {
-                place,
-                length: width,
-            });
+        if self.grammar.index(text.bytes()).is_some() {
+            return Err(Fault::NameTaken(at));
         }
-        if rules >= 32 {
-            return Err(Fault::NoRoom {
-                place,
-                length: width,
-            });
+        if self.grammar.rules.len() >= 32 {
+            return Err(Fault::NoRoom(at));
         }
-        self.name = Label::new(text, place);
+        self.name = Label::new(text, at.place);
         self.first = self.grammar.alternatives.len();
         self.state = State::Named;
         Ok(())
     }
 
-    fn begin_alternative(&mut self, place: usize, width: usize) -> Result<(), Fault>
-        requires going { vec_len self.old.grammar.rules < 32 }
-        ensures value { step_answer result (reading_of self.new) ≡ acted begin_alternative [] (reading_of self.old) place width }
-        ensures same { is_err result ≡ true → reading_of self.new ≡ reading_of self.old }
+    fn begin_alternative(&mut self, at: Span) -> Result<(), Fault>
+        requires { opened self.old.state ≡ 1 }
+        ensures { Acts begin_alternative [] at self.old self.new result }
     {
         if self.grammar.alternatives.len() >= 64 {
-            return Err(Fault::NoRoom {
-                place,
-                length: width,
-            });
+            return Err(Fault::NoRoom(at));
         }
         self.current = Alternative::new(self.grammar.labels.len());
         self.state = State::Items;
         Ok(())
     }
 
-    fn next_alternative(&mut self, place: usize, width: usize) -> Result<(), Fault>
-        requires going { vec_len self.old.grammar.rules < 32 }
-        ensures value { step_answer result (reading_of self.new) ≡ acted next_alternative [] (reading_of self.old) place width }
-        ensures same { is_err result ≡ true → reading_of self.new ≡ reading_of self.old }
+    fn next_alternative(&mut self, at: Span) -> Result<(), Fault>
+        requires { opened self.old.state ≡ 1 }
+        ensures { Acts next_alternative [] at self.old self.new result }
     {
         if self.grammar.alternatives.len() >= 63 {
-            return Err(Fault::NoRoom {
-                place,
-                length: width,
-            });
+            return Err(Fault::NoRoom(at));
         }
         self.grammar.alternatives.push_reserved(self.current);
         self.current = Alternative::new(self.grammar.labels.len());
@@ -97,8 +83,7 @@ impl Reader {
     }
 
     fn end_rule(&mut self)
-        requires room { vec_len self.old.grammar.alternatives < 64 }
-        requires rule_room { vec_len self.old.grammar.rules < 32 }
+        requires { InAlternative self.old.state }
         ensures { granted (reading_of self.new) ≡ acted end_rule [] (reading_of self.old) 0 0 }
     {
         self.grammar.alternatives.push_reserved(self.current);
@@ -112,30 +97,13 @@ impl Reader {
     }
 
     // Puts an item behind the last of the current alternative.
-    fn add_item(
-        &mut self,
-        item: Item,
-        label: Label,
-        next: State,
-        place: usize,
-        width: usize,
-    ) -> Result<(), Fault>
-        requires begun { begun next ≡ 1 }
-        requires going { begun self.old.state ≡ 1 }
-        ensures value { step_answer result (reading_of self.new) ≡ item_added (reading_of self.old) next label item place width }
-        ensures same { is_err result ≡ true → reading_of self.new ≡ reading_of self.old }
+    fn add_item(&mut self, item: Item, label: Label, next: State, at: Span) -> Result<(), Fault>
+        requires here { InAlternative self.old.state }
+        requires next { InAlternative next }
+        ensures { StepAnswers result (reading_of self.old) (reading_of self.new) (item_added (reading_of self.old) next label item at.place at.length) }
     {
-        if self.current.count >= 6 {
-            return Err(Fault::NoRoom {
-                place,
-                length: width,
-            });
-        }
-        if self.grammar.labels.len() >= 128 {
-            return Err(Fault::NoRoom {
-                place,
-                length: width,
-            });
+        if self.current.count >= 6 || self.grammar.labels.len() >= 128 {
+            return Err(Fault::NoRoom(at));
         }
         self.grammar.labels.push_reserved(label);
         self.current = self.current.with_item(item);
@@ -144,60 +112,47 @@ impl Reader {
     }
 
     // A name that is used, as an item.
-    fn add_name(&mut self, text: &[u8], place: usize, width: usize) -> Result<(), Fault>
-        requires short { length text.now ≤ 24 }
-        requires going { begun self.old.state ≡ 1 }
-        ensures value { step_answer result (reading_of self.new) ≡ acted add_name text.now (reading_of self.old) place width }
-        ensures same { is_err result ≡ true → reading_of self.new ≡ reading_of self.old }
+    fn add_name(&mut self, text: Word<'_>, at: Span) -> Result<(), Fault>
+        requires { InAlternative self.old.state }
+        ensures { Acts add_name text.entry.bytes.now at self.old self.new result }
     {
         let item = Item::Use {
             label: self.grammar.labels.len(),
         };
-        self.add_item(item, Label::new(text, place), State::Items, place, width)
+        self.add_item(item, Label::new(text, at.place), State::Items, at)
     }
 
     // A literal, as an item of size 1 and cost 1.
-    fn add_literal(&mut self, text: &[u8], place: usize, width: usize) -> Result<(), Fault>
-        requires short { length text.now ≤ 24 }
-        requires going { begun self.old.state ≡ 1 }
-        ensures value { step_answer result (reading_of self.new) ≡ acted add_literal text.now (reading_of self.old) place width }
-        ensures same { is_err result ≡ true → reading_of self.new ≡ reading_of self.old }
+    fn add_literal(&mut self, text: Word<'_>, at: Span) -> Result<(), Fault>
+        requires { InAlternative self.old.state }
+        ensures { Acts add_literal text.entry.bytes.now at self.old self.new result }
     {
         let item = Item::Literal {
             label: self.grammar.labels.len(),
             size: 1,
             cost: 1,
         };
-        self.add_item(
-            item,
-            Label::new(text, place),
-            State::AfterLiteral,
-            place,
-            width,
-        )
+        self.add_item(item, Label::new(text, at.place), State::AfterLiteral, at)
     }
 
     // Reads one token, or refuses it and stays as it is.
     pub(crate) fn step(&mut self, t: Spanned<'_>) -> Result<(), Fault>
-        requires short { Short (word_of t.token) }
-        ensures value { step_answer result (reading_of self.new) ≡ stepped (reading_of self.old) (word_of t.entry.token) t.entry.place t.entry.length }
-        ensures same { is_err result ≡ true → reading_of self.new ≡ reading_of self.old }
+        ensures { StepAnswers result (reading_of self.old) (reading_of self.new) (stepped (reading_of self.old) (word_of t.entry.token) t.entry.at.place t.entry.at.length) }
     {
-        let place = t.place;
-        let width = t.length;
+        let at = t.at;
         match (self.state, t.token) {
-            (State::Outside, Token::Name(text)) => self.begin_rule(text, place, width),
-            (State::Named, Token::Equals) => self.begin_alternative(place, width),
+            (State::Outside, Token::Name(text)) => self.begin_rule(text, at),
+            (State::Named, Token::Equals) => self.begin_alternative(at),
             (State::Items | State::AfterLiteral | State::AfterSize, Token::Bar) =>
-                self.next_alternative(place, width),
+                self.next_alternative(at),
             (State::Items | State::AfterLiteral | State::AfterSize, Token::Semicolon) => {
                 self.end_rule();
                 Ok(())
             }
             (State::Items | State::AfterLiteral | State::AfterSize, Token::Name(text)) =>
-                self.add_name(text, place, width),
+                self.add_name(text, at),
             (State::Items | State::AfterLiteral | State::AfterSize, Token::Literal(text)) =>
-                self.add_literal(text, place, width),
+                self.add_literal(text, at),
             (State::AfterLiteral, Token::Colon) => {
                 self.state = State::AfterColon;
                 Ok(())
@@ -216,10 +171,7 @@ impl Reader {
                 self.state = State::Items;
                 Ok(())
             }
-            _ => Err(Fault::Unexpected {
-                place,
-                length: width,
-            }),
+            _ => Err(Fault::Unexpected(at)),
         }
     }
 }

@@ -1,11 +1,17 @@
 // The tokens of a family file.
+ghost use Rattle.std.specs.Prelude.{◌≡◌, length};
+ghost use Rattle.files.specs.Scans.{word_of};
+ghost use Rattle.files.specs.Tokens.{written};
+
+use crate::fault::Span;
+use crate::text::{DigitRun, Word};
 
 // A token is a part of the file: a name, a literal's inside and a digit run borrow the file's bytes.
 #[derive(Clone, Copy)]
 pub(crate) enum Token<'a> {
-    Name(&'a [u8]),
-    Literal(&'a [u8]),
-    Digits(&'a [u8]),
+    Name(Word<'a>),
+    Literal(Word<'a>),
+    Digits(DigitRun<'a>),
     Equals,
     Bar,
     Semicolon,
@@ -13,10 +19,23 @@ pub(crate) enum Token<'a> {
     At,
 }
 
-// A token with its place in the file and its length there, quotation marks included.
+impl Token<'_> {
+    // How long it is in the file: a literal has its quotation marks there.
+    pub(crate) fn length(self) -> usize
+        ensures { result ≡ length (written (word_of self.entry)) }
+    {
+        match self {
+            Token::Name(text) => text.bytes().len(),
+            Token::Literal(text) => text.bytes().len() + 2,
+            Token::Digits(run) => run.bytes().len(),
+            _ => 1,
+        }
+    }
+}
+
+// A token with its place in the file and its length there.
 #[derive(Clone, Copy)]
 pub(crate) struct Spanned<'a> {
     pub(crate) token: Token<'a>,
-    pub(crate) place: usize,
-    pub(crate) length: usize,
+    pub(crate) at: Span,
 }

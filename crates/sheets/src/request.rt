@@ -1,14 +1,14 @@
 // The first line of a program's input: a name, a top size and a format, one space between.
 ghost use Rattle.std.specs.Prelude.{◌<◌, ◌^◌};
 
-use files::fault::Fault;
+use files::fault::{Fault, Span};
 use std::str;
 
 // The first line has another form.
-const MALFORMED: Fault = Fault::Unexpected {
+const MALFORMED: Fault = Fault::Unexpected(Span {
     place: 0,
     length: 0,
-};
+});
 
 // Which sheet is asked for: the choice sheet or the text sheet.
 #[derive(Clone, Copy)]

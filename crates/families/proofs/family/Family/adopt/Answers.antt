@@ -1,4 +1,4 @@
-use Rattle.std.proofs.Common.{length, sym, refl, ap, ◌∙◌, subst, ap₂, arith}
+use Rattle.std.proofs.Common.{length, sym, refl, ap, ◌∙◌, subst, arith}
 use Rattle.files.specs.Grammars.{Lists, lists_of, rule_at}
 use Rattle.files.specs.Models.{NamesDiffer}
 use Rattle.files.specs.declared.fault.Fault.TheVariants.{EmptyCycle}
@@ -16,7 +16,7 @@ returns-in-Some-clause-adopts c =
       record {
         name = c.in-Some.cycle;
         defined = cycle.0;
-        is = ap₂ EmptyCycle (c.place.ensures ∙ ap (λ r. r.label.place) rule) (c.length.ensures ∙ ap (λ r. r.label.length) rule);
+        is = ap EmptyCycle (c.span.ensures ∙ ap (λ r. record { place = r.label.place; length = r.label.length }) rule);
         cycle = cycle.1;
         first = λ z h. off_cycle _ _ c.new-marks.ensures.draft _ _ c.new-marks.ensures.found c.chains-chains.ensures z (omega (arith, c.in-Some.ensures.0)) (c.in-Some.ensures.2 z h);
       },
