@@ -13,11 +13,11 @@ use crate::count::Count;
 pub trait WeightKind: Copy {
     const LETTER: u8;
 
+    ghost LETTER: { ℕ };
+
     ghost kind: { Kind Self };
 
     ghost shown: { Self → Option ℕ };
-
-    ghost mark: { ℕ };
 
     fn nothing() -> Self
         ensures { result ≡ kind.none };
@@ -37,10 +37,6 @@ pub trait WeightKind: Copy {
     fn show(self) -> Option<u64>
         ensures { result ≡ shown self };
 
-    // The letter, as clauses can speak of it.
-    fn printed_letter() -> u8
-        ensures { result ≡ mark };
-
     ghost laws: { Laws kind };
 }
 
@@ -48,11 +44,11 @@ pub trait WeightKind: Copy {
 impl WeightKind for Count {
     const LETTER: u8 = b'c';
 
+    ghost LETTER = { 99 };
+
     ghost kind = { count_kind };
 
     ghost shown = { count_shown };
-
-    ghost mark = { 99 };
 
     ghost laws = { count_laws };
 
@@ -98,21 +94,17 @@ impl WeightKind for Count {
     fn show(self) -> Option<u64> {
         Some(self.value)
     }
-
-    fn printed_letter() -> u8 {
-        Self::LETTER
-    }
 }
 
 // The cheapest: each literal weighs its cost, the sum is the smaller, the product adds.
 impl WeightKind for Cheapest {
     const LETTER: u8 = b'm';
 
+    ghost LETTER = { 109 };
+
     ghost kind = { cheapest_kind };
 
     ghost shown = { cheapest_shown };
-
-    ghost mark = { 109 };
 
     ghost laws = { cheapest_laws };
 
@@ -136,7 +128,7 @@ impl WeightKind for Cheapest {
         ensures same { result ≡ cheapest_kind.sum self other }
         ensures means { result.cost ≡ min self.cost other.cost }
     {
-        if other.cost < self.cost { other } else { self }
+        self.min(other)
     }
 
     fn times(self, other: Cheapest) -> Cheapest
@@ -161,9 +153,5 @@ impl WeightKind for Cheapest {
         } else {
             Some(u64::from(self.cost))
         }
-    }
-
-    fn printed_letter() -> u8 {
-        Self::LETTER
     }
 }
