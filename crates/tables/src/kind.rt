@@ -53,22 +53,19 @@ impl WeightKind for Count {
     ghost laws = { count_laws };
 
     fn nothing() -> Count
-        ensures same { result ≡ count_kind.none }
-        ensures means { result.value ≡ 0 }
+        ensures { result.value ≡ 0 }
     {
         Count { value: 0 }
     }
 
     fn one() -> Count
-        ensures same { result ≡ count_kind.unit }
-        ensures means { result.value ≡ 1 }
+        ensures { result.value ≡ 1 }
     {
         Count { value: 1 }
     }
 
     fn plus(self, other: Count) -> Count
-        ensures same { result ≡ count_kind.sum self other }
-        ensures means { result.value ≡ min 18446744073709551615 (self.value + other.value) }
+        ensures { result.value ≡ min 18446744073709551615 (self.value + other.value) }
     {
         Count {
             value: self.value.saturating_add(other.value),
@@ -76,8 +73,7 @@ impl WeightKind for Count {
     }
 
     fn times(self, other: Count) -> Count
-        ensures same { result ≡ count_kind.product self other }
-        ensures means { result.value ≡ min 18446744073709551615 (self.value * other.value) }
+        ensures { result.value ≡ min 18446744073709551615 (self.value * other.value) }
     {
         Count {
             value: self.value.saturating_mul(other.value),
@@ -85,8 +81,7 @@ impl WeightKind for Count {
     }
 
     fn weight(cost: u32) -> Count
-        ensures same { result ≡ count_kind.weigh cost }
-        ensures means { result.value ≡ 1 }
+        ensures { result.value ≡ 1 }
     {
         Self::one()
     }
@@ -109,8 +104,7 @@ impl WeightKind for Cheapest {
     ghost laws = { cheapest_laws };
 
     fn nothing() -> Cheapest
-        ensures same { result ≡ cheapest_kind.none }
-        ensures means { result.cost ≡ 4294967295 }
+        ensures { result.cost ≡ 4294967295 }
     {
         Cheapest {
             cost: 4_294_967_295,
@@ -118,22 +112,19 @@ impl WeightKind for Cheapest {
     }
 
     fn one() -> Cheapest
-        ensures same { result ≡ cheapest_kind.unit }
-        ensures means { result.cost ≡ 0 }
+        ensures { result.cost ≡ 0 }
     {
         Cheapest { cost: 0 }
     }
 
     fn plus(self, other: Cheapest) -> Cheapest
-        ensures same { result ≡ cheapest_kind.sum self other }
-        ensures means { result.cost ≡ min self.cost other.cost }
+        ensures { result.cost ≡ min self.cost other.cost }
     {
         self.min(other)
     }
 
     fn times(self, other: Cheapest) -> Cheapest
-        ensures same { result ≡ cheapest_kind.product self other }
-        ensures means { result.cost ≡ min 4294967295 (self.cost + other.cost) }
+        ensures { result.cost ≡ min 4294967295 (self.cost + other.cost) }
     {
         Cheapest {
             cost: self.cost.saturating_add(other.cost),
@@ -141,8 +132,7 @@ impl WeightKind for Cheapest {
     }
 
     fn weight(cost: u32) -> Cheapest
-        ensures same { result ≡ cheapest_kind.weigh cost }
-        ensures means { result.cost ≡ cost }
+        ensures { result.cost ≡ cost }
     {
         Cheapest { cost }
     }
