@@ -1,5 +1,6 @@
 -- What opening a table answers and leaves. Assumes nothing.
-use Rattle.std.specs.Prelude.{◌≡◌, ℕ, ◌<◌, ◌≤◌, cond, ◌&&◌, List, length, Some, Ok, Err, Result, nat_le, nat_lt}
+use Rattle.std.specs.Prelude.{◌≡◌, ℕ, ◌<◌, ◌≤◌, cond, ◌&&◌, not, ◌==◌, List, length, Some, Option, Ok, Err, Result, nat_le, nat_lt}
+use Rattle.std.specs.List.{position, zip}
 use Rattle.std.specs.Borrow.{Bor}
 use Rattle.theory.specs.Families.{Family as Rules}
 use Rattle.theory.specs.Tables.{entry_at, rows}
@@ -10,6 +11,10 @@ use Rattle.tables.specs.Tables.{Room, Refusal, rows_of, rules_of, rows_open, ent
 use Rattle.tables.specs.Counts.{count_kind}
 use Rattle.tables.specs.declared.count.Count.{Count}
 use Rattle.tables.specs.declared.open_table.OpenTable.{OpenTable}
+
+-- the first index at which two tables differ
+abbrev pub first_unequal : List Count → List Count → Option ℕ
+first_unequal t u = position (λ p. not (p.0.value == p.1.value)) (zip t u)
 
 -- i is the first index whose entry is not its total
 pub record FirstWrong (F : Rules) (N : ℕ) (t : List Count) (i : ℕ) : Type 0 where

@@ -17,23 +17,13 @@ use families::family::Family;
 use files::fault::Fault;
 use files::item::{Alternative, Item};
 
-// The index of the entry of a row at n.
-fn place(shape: Shape, row: usize, n: usize) -> usize
-    requires row { row < shape.rows }
-    requires size { n ≤ shape.top }
-    ensures exact { result ≡ entry_at shape.top row n }
-    ensures within { result < entries shape.rows shape.top }
-{
-    row * (shape.top + 1) + n
-}
-
 fn entry<K: WeightKind>(shape: Shape, table: &[K], row: usize, n: usize) -> K
     requires room { entries shape.rows shape.top ≤ length table.now }
     requires row { row < shape.rows }
     requires size { n ≤ shape.top }
     ensures { result ≡ entry_of K.kind shape.top table.now row n }
 {
-    table[place(shape, row, n)]
+    table[shape.place(row, n)]
 }
 
 fn put<K: WeightKind>(shape: Shape, table: &mut [K], row: usize, n: usize, value: K)
@@ -42,7 +32,7 @@ fn put<K: WeightKind>(shape: Shape, table: &mut [K], row: usize, n: usize, value
     requires size { n ≤ shape.top }
     ensures { table.new ≡ slice_set table.old (entry_at shape.top row n) value }
 {
-    table[place(shape, row, n)] = value;
+    table[shape.place(row, n)] = value;
 }
 
 // The total of a literal at k: its weight at its own size.
@@ -274,25 +264,11 @@ pub(crate) fn fill_all<K: WeightKind>(shape: Shape, family: &Family, table: &mut
     }
 }
 
-// The shape of the family's table, or why there is none in `length` entries.
-pub(crate) fn shape_for(family: &Family, length: usize, top: usize) -> Result<Shape, Fault>
-    ensures { Fits result (rows_of family.now) length top }
-{
-    if top > 40 {
-        return Err(Fault::TopTooLarge);
-    }
-    let rows = family.names() + family.items();
-    if length < rows * (top + 1) {
-        return Err(Fault::TableTooShort);
-    }
-    Ok(Shape { rows, top })
-}
-
 // Writes each entry's total into the table, or refuses and writes nothing.
 pub fn fill<K: WeightKind>(family: &Family, table: &mut [K], top: usize) -> Result<(), Fault>
     ensures { Fills K.kind result family.now top table.old table.new }
 {
-    let shape = shape_for(family, table.len(), top)?;
+    let shape = Shape::new(family, table.len(), top)?;
     fill_all(shape, family, table);
     Ok(())
 }

@@ -10,3 +10,4 @@ pub mod open_table;
 pub mod opening;
 pub mod scratch;
 pub mod shape;
+pub mod shaping;

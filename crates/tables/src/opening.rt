@@ -1,17 +1,18 @@
 // Opening a table, and what an open table is asked for.
-ghost use Rattle.std.specs.Prelude.{◌≡◌, ℕ, ◌+◌, ◌-◌, ◌*◌, ◌<◌, ◌≤◌, [], length, IfErr, Some, None, ◌≢◌, slice_index_or};
+ghost use Rattle.std.specs.Prelude.{◌≡◌, ℕ, ◌+◌, ◌-◌, ◌*◌, ◌<◌, ◌≤◌, [], length, IfErr, MatchOption, None};
 ghost use Rattle.files.specs.declared.fault.Fault.TheVariants.{OutOfMemory};
 ghost use Rattle.theory.specs.Tables.{rows};
 ghost use Rattle.tables.specs.Tables.{rules_of, rules_open, rows_open, names_open, entries, total_at, Totals};
 ghost use Rattle.tables.specs.Counts.{count_kind};
 ghost use Rattle.tables.specs.Fillings.{Prepared};
-ghost use Rattle.tables.specs.Openings.{FirstWrong, Opened, count_at};
+ghost use Rattle.tables.specs.Openings.{first_unequal, FirstWrong, Opened, count_at};
 
 use crate::count::Count;
-use crate::filling::{fill_all, shape_for};
+use crate::filling::fill_all;
 use crate::open_table::OpenTable;
 use crate::scratch::Scratch;
 use crate::shape::Shape;
+use crate::shaping::row_count;
 use families::family::Family;
 use files::fault::Fault;
 use std::alloc::Global;
@@ -27,31 +28,30 @@ impl Scratch {
     }
 }
 
-// The first index below `size` at which the two differ, or `size`.
-fn first_difference(table: &[Count], totals: &[Count], size: usize) -> usize
-    requires table { size ≤ length table.now }
-    requires totals { size ≤ length totals.now }
-    ensures within { result ≤ size }
-    ensures before { (k : ℕ) → k < result → slice_index_or table.now k count_kind.none ≡ slice_index_or totals.now k count_kind.none }
-    ensures here { result < size → slice_index_or table.now result count_kind.none ≢ slice_index_or totals.now result count_kind.none }
+// The first index at which the two differ.
+fn first_difference(table: &[Count], totals: &[Count]) -> Option<usize>
+    ensures { result ≡ first_unequal table.now totals.now }
 {
-    for i in 0..size {
-        if table[i].value != totals[i].value {
-            return i;
-        }
-    }
-    size
+    table
+        .iter()
+        .zip(totals)
+        .position(|(entry, total)| entry != total)
 }
 
-// The first index at which an entry is not its total, or how many entries there are; `totals` is written.
-fn first_wrong(shape: Shape, family: &Family, table: &[Count], totals: &mut [Count]) -> usize
+// The first index at which an entry is not its total; `totals` is written.
+fn first_wrong(
+    shape: Shape,
+    family: &Family,
+    table: &[Count],
+    totals: &mut [Count],
+) -> Option<usize>
     requires room { entries shape.rows shape.top ≤ length table.now }
     requires prepared { Prepared family.now shape (length totals.old) }
-    ensures wrong { result < entries shape.rows shape.top → FirstWrong (rules_of family.now) shape.top table.now result }
-    ensures right { entries shape.rows shape.top ≤ result → Totals count_kind (rules_of family.now) shape.top table.now }
+    ensures { MatchOption result (Totals count_kind (rules_of family.now) shape.top table.now) (FirstWrong (rules_of family.now) shape.top table.now) }
 {
     fill_all(shape, family, totals);
-    first_difference(table, totals, shape.rows * (shape.top + 1))
+    let size = shape.entries();
+    first_difference(&table[..size], &totals[..size])
 }
 
 impl<'f, 't> OpenTable<'f, 't> {
@@ -71,9 +71,9 @@ impl<'f, 't> OpenTable<'f, 't> {
     pub fn open(&mut self, family: &'f Family, table: &'t [Count], top: usize) -> Result<(), Fault>
         ensures { Opened result self.old self.new family.entry table.entry top }
     {
-        let shape = shape_for(family, table.len(), top)?;
-        let index = first_wrong(shape, family, table, self.scratch.totals.as_mut_slice());
-        if index < shape.rows * (top + 1) {
+        let shape = Shape::new(family, table.len(), top)?;
+        let totals = self.scratch.totals.as_mut_slice();
+        if let Some(index) = first_wrong(shape, family, table, totals) {
             return Err(Fault::WrongEntry { index });
         }
         self.family = Some(family);
@@ -93,20 +93,14 @@ impl<'f, 't> OpenTable<'f, 't> {
     pub fn names(&self) -> usize
         ensures { result ≡ names_open self.now.family }
     {
-        match self.family {
-            None => 0,
-            Some(family) => family.names(),
-        }
+        self.family.map_or(0, |family| family.names())
     }
 
     // How many rows there are.
     fn rows(&self) -> usize
         ensures { result ≡ rows_open self.now.family }
     {
-        match self.family {
-            None => 0,
-            Some(family) => family.names() + family.items(),
-        }
+        self.family.map_or(0, |family| row_count(family))
     }
 
     // The largest size.
@@ -121,8 +115,7 @@ impl<'f, 't> OpenTable<'f, 't> {
         ensures value { result ≡ count_at self.now row size }
         ensures total { row < rows (rules_open self.now.family) → size ≤ self.now.top → result ≡ (total_at count_kind (rules_open self.now.family) row size).value }
     {
-        let rows = self.rows();
-        if row < rows && size <= self.top {
+        if row < self.rows() && size <= self.top {
             self.table[row * (self.top + 1) + size].value
         } else {
             0

@@ -14,14 +14,14 @@ inside : (t : OpenTable) (r n : ℕ) → r < rows_open t.family → n ≤ t.top 
 inside t r n h w = entry_inside count_kind t.top (rows_open t.family) r n (length t.table.now) h w t.room
 
 pub bounds-self-row : goal.bounds-self-row
-bounds-self-row c = inside c.args.self.now c.args.row c.args.size (omega (arith, c.rows-rows.ensures)) c.if-size-self.true
+bounds-self-row c = inside c.args.self.now c.args.row c.args.size (omega (arith, c.rows.ensures)) c.if-size-self.true
 
 pub returns-then-size-self : goal.returns-then-size-self
 returns-then-size-self c =
     let t = c.args.self.now in
     let row = c.args.row in
     let size = c.args.size in
-    let there : row < rows_open t.family = omega (arith, c.rows-rows.ensures) in
+    let there : row < rows_open t.family = omega (arith, c.rows.ensures) in
     let read = ap (λ x. x.value) (get_or_default t.table.now (row * (t.top + 1) + size) c.index-self-row.result count_kind.none (inside t row size there c.if-size-self.true)) in
     record {
       value = read ∙ sym (cond-true (ltb row (rows_open t.family) && leb size t.top) _ 0 (and_from (ltb row (rows_open t.family)) (leb size t.top) (lt-ltb row (rows_open t.family) there) (le-leb size t.top c.if-size-self.true)));
@@ -37,7 +37,7 @@ returns-else-row-rows c =
         total = λ h l. absurd (omega (arith, w.if-size-self.false));
       }
       | else-row-rows-via-else-row-rows w ↦ record {
-        value = sym (cond-false (ltb c.args.row (rows_open t.family) && leb c.args.size t.top) _ 0 (and_left (ltb c.args.row (rows_open t.family)) (leb c.args.size t.top) (le-ltb c.args.row (rows_open t.family) (omega (arith, w.if-row-rows.false, c.rows-rows.ensures)))));
-        total = λ h l. absurd (omega (arith, w.if-row-rows.false, c.rows-rows.ensures, rows-opened t.family));
+        value = sym (cond-false (ltb c.args.row (rows_open t.family) && leb c.args.size t.top) _ 0 (and_left (ltb c.args.row (rows_open t.family)) (leb c.args.size t.top) (le-ltb c.args.row (rows_open t.family) (omega (arith, w.if-row-rows.false, c.rows.ensures)))));
+        total = λ h l. absurd (omega (arith, w.if-row-rows.false, c.rows.ensures, rows-opened t.family));
       }
     ]
