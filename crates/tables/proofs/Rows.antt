@@ -28,13 +28,13 @@ module _ {K : Type 0} (o : Kind K) (laws : Laws o) (F : Rules) (defined : Define
 
   module _ (n : ℕ) (low : n ≤ N) where
     pub wrote_none : (P : ℕ → Type 0) (t : List K) → ((j : ℕ) → P j → ⊥) → Wrote o F N n P t t
-    wrote_none P t none = record { new = λ j h x. absurd (none j x); still = λ j h r. r; changed = changed_none o N (rows F) n (λ r. length F ≤ r) t }
+    wrote_none P t none = record { new = λ j h x. absurd (none j x); still = λ j h r. r; changed = changed_none o N n (λ r. length F ≤ r) t }
 
     pub wrote_then : (P Q R : ℕ → Type 0) (t u v : List K) → ((j : ℕ) → R j → P j ⊎ Q j) → Wrote o F N n P t u → Wrote o F N n Q u v → Wrote o F N n R t v
     wrote_then P Q R t u v split a b = record {
       new = λ j h x. ⊎_elim (λ (p : P j). b.still j h (a.new j h p)) (λ (q : Q j). b.new j h q) (split j x);
       still = λ j h r. b.still j h (a.still j h r);
-      changed = changed_then o N (rows F) n (λ r. length F ≤ r) t u v a.changed b.changed;
+      changed = changed_then o N n (λ r. length F ≤ r) t u v a.changed b.changed;
     }
 
     pub wrote_fewer : (P R : ℕ → Type 0) (t u : List K) → ((j : ℕ) → R j → P j) → Wrote o F N n P t u → Wrote o F N n R t u
@@ -45,11 +45,11 @@ module _ {K : Type 0} (o : Kind K) (laws : Laws o) (F : Rules) (defined : Define
       abbrev after : List K
       after = set t (entry_at N (item_row F i) n) v
 
-      only : Changed o (rows F) N n (λ q. q ≡ item_row F i) t after
-      only = put_changed o N (rows F) n t (item_row F i) v (omega arith) low
+      only : Changed o N n (λ q. q ≡ item_row F i) t after
+      only = put_changed o N n t (item_row F i) v low
 
       names_kept : (k y m : ℕ) → k ≤ N → y < length F → m ≤ k → entry_of o N after y m ≡ entry_of o N t y m
-      names_kept k y m w h l = only.others y m (omega arith) (λ e x. omega arith)
+      names_kept k y m w h l = only y m (omega arith) (λ e x. omega arith)
 
       new_here : Right o F N after i n
       new_here =
@@ -63,9 +63,9 @@ module _ {K : Type 0} (o : Kind K) (laws : Laws o) (F : Rules) (defined : Define
         still = λ j h r.
             ⊎_elim
             (λ (e : j ≡ i). subst (λ (x : ℕ). Right o F N after x n) (sym e) new_here)
-            (λ (e : j ≡ i → ⊥). right_same t after j n (λ y m w l. names_kept n y m low w l) (only.others (item_row F j) n low (λ z x. e (omega arith))) r)
+            (λ (e : j ≡ i → ⊥). right_same t after j n (λ y m w l. names_kept n y m low w l) (only (item_row F j) n low (λ z x. e (omega arith))) r)
             (cases_eq j i);
-        changed = changed_wider o N (rows F) n (λ q. q ≡ item_row F i) (λ q. length F ≤ q) t after (λ q x. omega arith) only;
+        changed = changed_wider o N n (λ q. q ≡ item_row F i) (λ q. length F ≤ q) t after (λ q x. omega arith) only;
       }
 
     pub put_wrote_at : (t u : List K) (i r : ℕ) (v : K) → i < item_count F → entries (rows F) N ≤ length t → v ≡ tail_value o (entry_of o N t) (tail_at F i) n → r ≡ item_row F i → u ≡ set t (entry_at N r n) v → Wrote o F N n (λ j. j ≡ i) t u
@@ -75,13 +75,17 @@ module _ {K : Type 0} (o : Kind K) (laws : Laws o) (F : Rules) (defined : Define
     -- what a writing of items keeps
     module _ (P : ℕ → Type 0) (t u : List K) (w : Wrote o F N n P t u) where
       pub wrote_names : (y k : ℕ) → y < length F → k ≤ N → entry_of o N u y k ≡ entry_of o N t y k
-      wrote_names y k h l = w.changed.others y k l (λ e x. omega arith)
+      wrote_names y k h l = w.changed y k l (λ e x. omega arith)
 
       pub wrote_lower : (r k : ℕ) → k < n → entry_of o N u r k ≡ entry_of o N t r k
-      wrote_lower r k h = w.changed.others r k (omega arith) (λ e x. omega arith)
+      wrote_lower r k h = w.changed r k (omega arith) (λ e x. omega arith)
 
       pub wrote_right : ((j k : ℕ) → j < item_count F → k < n → Right o F N t j k) → (j k : ℕ) → j < item_count F → k < n → Right o F N u j k
       wrote_right right j k h l = right_same t u j k (λ y m b c. wrote_names y m b (omega arith)) (wrote_lower (item_row F j) k l) (right j k h l)
+
+-- the items from i on, below m
+abbrev pub From : ℕ → ℕ → ℕ → Type 0
+From i m j = (i ≤ j) × (j < m)
 
 -- one split of the size n of the tail at a place of an alternative
 abbrev pub split_term : {K : Type 0} → Kind K → (ℕ → ℕ → K) → List Label → Alternative → ℕ → ℕ → ℕ → K

@@ -79,6 +79,10 @@ item_below l a s p m h w =
 abbrev pub Upto : Lists → ℕ → ℕ → ℕ → Type 0
 Upto l y n j = (a : ℕ) × (a < n) × Of (alternative_at l.alternatives ((rule_at l.rules y).first + a)) j
 
+-- it is of one of the rules below y
+abbrev pub Before : Lists → ℕ → ℕ → Type 0
+Before l y j = (z : ℕ) × (z < y) × Under l z j
+
 -- x is the alternative a of the rule y
 pub record Found (l : Lists) (y a : ℕ) (x : Alternative) : Type 0 where
   pub below : a < (rule_at l.rules y).count

@@ -5,6 +5,7 @@ pub mod cheapest;
 pub mod count;
 pub mod filling;
 pub mod kind;
+pub(crate) mod level;
 pub mod meanings;
 pub mod open_table;
 pub mod opening;
