@@ -2,7 +2,7 @@
 use Rattle.std.specs.Prelude.{◌≡◌, ℕ, ◌+◌, ◌<◌, ◌≤◌, ◌⊎◌, Bool, false, List, length, drop, slice_index}
 use Rattle.theory.specs.Kinds.{Kind}
 use Rattle.theory.specs.Orders.{upward}
-use Rattle.theory.specs.Families.{Family as Rules, item_count, tail_at, Known}
+use Rattle.theory.specs.Families.{Item as Symbol, Family as Rules, item_count, tail_at, Known}
 use Rattle.theory.specs.Totals.{total, tail_total, tail_value}
 use Rattle.theory.specs.Tables.{item_row, rows}
 use Rattle.files.specs.Grammars.{Lists, lists_of, rule_at, alternative_at}
@@ -11,10 +11,12 @@ use Rattle.families.specs.Sound.{marked}
 use Rattle.families.specs.declared.family.Family.{Family}
 use Rattle.files.specs.declared.item.Item.{Item}
 use Rattle.files.specs.declared.item.Item.TheVariants.{Vacant, Use, Name, Literal}
+use Rattle.files.specs.declared.item.Label.{Label}
 use Rattle.files.specs.declared.item.Alternative.{Alternative}
 use Rattle.tables.specs.Tables.{rules_of, entries, entry_of, Beyond}
 use Rattle.tables.specs.declared.shape.Shape.{Shape}
 use Rattle.tables.specs.declared.level.Level.{Level}
+use Rattle.tables.specs.declared.tail.Tail.{Tail}
 
 -- a table of `size` entries has place for the family's, in that shape
 pub record Prepared (f : Family) (s : Shape) (size : ℕ) : Type 0 where
@@ -64,6 +66,14 @@ pub record Ready {K : Type 0} (o : Kind K) (F : Rules) (nul : ℕ → Bool) (N n
   pub names : (z k : ℕ) → z < length F → k < n → entry_of o N t z k ≡ total o upward F z k
   pub items : (j k : ℕ) → j < item_count F → k < n → entry_of o N t (item_row F j) k ≡ tail_total o upward F (tail_at F j) k
   pub here : (z : ℕ) → z < length F → D z → entry_of o N t z n ≡ total o upward F z n
+
+-- the number of a tail's first item, through the whole family
+abbrev pub number_of : Tail → ℕ
+number_of t = t.alternative.first + t.slot
+
+-- what a tail's items are, in the family's rules
+abbrev pub symbols_of : List Label → Tail → List Symbol
+symbols_of ls t = drop t.slot (alternative_model ls t.alternative)
 
 -- A table at one size
 

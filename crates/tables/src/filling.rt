@@ -1,17 +1,18 @@
 // Filling a table: size by size, the names by rank and then all items' rows once more.
-ghost use Rattle.std.specs.Prelude.{◌≡◌, ℕ, ◌+◌, ◌<◌, ◌≤◌, List, length, drop, if◌then◌else◌, nat_eq, slice_index, slice_set};
+ghost use Rattle.std.specs.Prelude.{◌≡◌, ℕ, ◌+◌, ◌<◌, ◌≤◌, List, length, if◌then◌else◌, nat_eq, slice_index, slice_set};
 ghost use Rattle.theory.specs.Families.{item_count, tail_at};
 ghost use Rattle.theory.specs.Totals.{item_value, tail_value, alternatives_value};
 ghost use Rattle.theory.specs.Tables.{entry_at, item_row};
-ghost use Rattle.files.specs.Models.{item_model, alternative_model};
+ghost use Rattle.files.specs.Models.{item_model};
 ghost use Rattle.families.specs.Sound.{marked};
 ghost use Rattle.files.specs.declared.item.Label.{Label};
 ghost use Rattle.tables.specs.Tables.{rules_of, Beyond, Fills};
-ghost use Rattle.tables.specs.Fillings.{Prepared, Below, Stands, Of, Under, Ready, rules_at, lists_at, value_at, RightAt, LowerRight, SizesDone, RanksDone, Kept, Writes, FillsName};
+ghost use Rattle.tables.specs.Fillings.{Prepared, Below, Stands, Of, Under, Ready, number_of, symbols_of, rules_at, lists_at, value_at, RightAt, LowerRight, SizesDone, RanksDone, Kept, Writes, FillsName};
 
 use crate::kind::WeightKind;
 use crate::level::Level;
 use crate::shape::Shape;
+use crate::tail::Tail;
 use families::family::Family;
 use files::fault::Fault;
 use files::item::{Alternative, Item};
@@ -45,14 +46,14 @@ impl<'f, 't, K: WeightKind> Level<'f, 't, K> {
         self.table[self.shape.place(row, self.size)] = value;
     }
 
-    // The row of the item at `slot`: the names come first.
-    fn item_row(&self, alternative: Alternative, slot: usize) -> usize
-        requires stands { Stands (lists_at self.now) alternative }
-        requires there { slot < alternative.count }
-        ensures row { result ≡ item_row (rules_at self.now) (alternative.first + slot) }
+    // The row of a tail's first item: the names come first.
+    fn row(&self, tail: Tail) -> usize
+        requires stands { Stands (lists_at self.now) tail.alternative }
+        requires there { tail.slot < tail.alternative.count }
+        ensures row { result ≡ item_row (rules_at self.now) (number_of tail) }
         ensures within { result < self.now.shape.rows }
     {
-        self.family.names() + alternative.first + slot
+        self.family.names() + tail.alternative.first + tail.slot
     }
 
     // The total of an item at k. What is neither a name nor a literal stands in no family; it has the total of an
@@ -69,15 +70,15 @@ impl<'f, 't, K: WeightKind> Level<'f, 't, K> {
         }
     }
 
-    // The total at k of what begins at `slot`: the unit at 0 where the alternative ends there.
-    fn rest_total(&self, alternative: Alternative, slot: usize, k: usize) -> K
-        requires stands { Stands (lists_at self.now) alternative }
+    // The total of a tail at k, from its first item's row: the unit at 0 where no item is left.
+    fn rest_total(&self, tail: Tail, k: usize) -> K
+        requires stands { Stands (lists_at self.now) tail.alternative }
         requires size { k ≤ self.now.size }
-        requires right { slot < alternative.count → RightAt K.kind self.now (alternative.first + slot) k }
-        ensures { result ≡ tail_value K.kind (value_at K.kind self.now) (drop slot (alternative_model (lists_at self.now).labels alternative)) k }
+        requires right { tail.slot < tail.alternative.count → RightAt K.kind self.now (number_of tail) k }
+        ensures { result ≡ tail_value K.kind (value_at K.kind self.now) (symbols_of (lists_at self.now).labels tail) k }
     {
-        if slot < alternative.count {
-            self.entry(self.item_row(alternative, slot), k)
+        if tail.has_item() {
+            self.entry(self.row(tail), k)
         } else if k == 0 {
             K::one()
         } else {
@@ -85,19 +86,21 @@ impl<'f, 't, K: WeightKind> Level<'f, 't, K> {
         }
     }
 
-    // What the tail that begins at `slot` totals: over all splits, the item's total times the rest's.
-    fn tail_total(&self, alternative: Alternative, slot: usize) -> K
-        requires stands { Stands (lists_at self.now) alternative }
-        requires there { slot < alternative.count }
-        requires rest { (k : ℕ) → k ≤ self.now.size → slot + 1 < alternative.count → RightAt K.kind self.now (alternative.first + (slot + 1)) k }
-        ensures { result ≡ tail_value K.kind (value_at K.kind self.now) (tail_at (rules_at self.now) (alternative.first + slot)) self.now.size }
+    // What a tail totals: over all splits, the item's total times the rest's.
+    fn tail_total(&self, tail: Tail) -> K
+        requires stands { Stands (lists_at self.now) tail.alternative }
+        requires there { tail.slot < tail.alternative.count }
+        requires rest { (k : ℕ) → k ≤ self.now.size → tail.slot + 1 < tail.alternative.count → RightAt K.kind self.now (tail.alternative.first + (tail.slot + 1)) k }
+        ensures { result ≡ tail_value K.kind (value_at K.kind self.now) (tail_at (rules_at self.now) (number_of tail)) self.now.size }
     {
-        let item = alternative.item(slot);
+        let item = tail.item();
+        let rest = tail.rest();
         let mut total = K::nothing();
         for k in 0..self.size + 1 {
-            let first = self.item_total(item, k);
-            let rest = self.rest_total(alternative, slot + 1, self.size - k);
-            total = total.plus(first.times(rest));
+            let split = self
+                .item_total(item, k)
+                .times(self.rest_total(rest, self.size - k));
+            total = total.plus(split);
         }
         total
     }
@@ -109,8 +112,9 @@ impl<'f, 't, K: WeightKind> Level<'f, 't, K> {
         ensures { Writes K.kind (Of alternative) self.old self.new }
     {
         for slot in (0..alternative.count).rev() {
-            let total = self.tail_total(alternative, slot);
-            self.put(self.item_row(alternative, slot), total);
+            let tail = Tail { alternative, slot };
+            let total = self.tail_total(tail);
+            self.put(self.row(tail), total);
         }
     }
 
@@ -146,8 +150,11 @@ impl<'f, 't, K: WeightKind> Level<'f, 't, K> {
         let rule = self.family.rule(y);
         let mut total = K::nothing();
         for a in 0..rule.count {
-            let alternative = self.family.alternative(rule.first + a);
-            total = total.plus(self.rest_total(alternative, 0, self.size));
+            let whole = Tail {
+                alternative: self.family.alternative(rule.first + a),
+                slot: 0,
+            };
+            total = total.plus(self.rest_total(whole, self.size));
         }
         total
     }

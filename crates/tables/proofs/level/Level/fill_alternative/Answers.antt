@@ -20,9 +20,9 @@ loop-slot-preserved g c =
     let a = c.args.alternative in
     let slot : ℕ = c.loop-slot.slot - 1 in
     let b = c.loop-slot.self in
-    let one = put_writes o laws b c.put.new.self (a.first + slot) c.item_row.result c.tail_total-total.result
+    let one = put_writes o laws b c.put.new.self (a.first + slot) c.row.result c.tail_total-total.result
     (onward c.args.self.now b c.loop-slot.invariant.kept (λ f s n. a.first + slot < item_count (rules_of f.now)) (c.requires.stands.inside slot (omega arith)))
-    c.item_row.ensures.row c.tail_total-total.ensures c.put.ensures.kept c.put.ensures.put in
+    c.row.ensures.row c.tail_total-total.ensures c.put.ensures.kept c.put.ensures.put in
     writes_then o laws (From (a.first + c.loop-slot.slot) (a.first + a.count)) (λ j. j ≡ a.first + slot) (From (a.first + slot) (a.first + a.count)) c.args.self.now b c.put.new.self
     (λ j x. ⊎_elim (λ (e : j ≡ a.first + slot). inr e) (λ (e : j ≡ a.first + slot → ⊥). inl (omega (arith, x.0), x.1)) (cases_eq j (a.first + slot)))
     c.loop-slot.invariant one

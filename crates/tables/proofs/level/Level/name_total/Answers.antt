@@ -12,19 +12,19 @@ use Rattle.tables.proofs.level.Level.name_total.Goals as goal
 
 pub rest_total-requires-clause-stands : goal.rest_total-requires-clause-stands
 rest_total-requires-clause-stands g c =
-    (found_at c.args.self.now c.args.y c.loop-a.a c.rule-rule.result c.alternative-alternative.result c.requires.there c.rule-rule.ensures c.loop-a-test.true c.alternative-alternative.ensures).stood
+    (found_at c.args.self.now c.args.y c.loop-a.a c.rule-rule.result c.alternative.result c.requires.there c.rule-rule.ensures c.loop-a-test.true c.alternative.ensures).stood
 
 pub rest_total-requires-clause-right : goal.rest_total-requires-clause-right
 rest_total-requires-clause-right g c = λ h.
-    let first = c.alternative-alternative.result.first in
-    let q = found_at c.args.self.now c.args.y c.loop-a.a c.rule-rule.result c.alternative-alternative.result c.requires.there c.rule-rule.ensures c.loop-a-test.true c.alternative-alternative.ensures in
+    let first = c.alternative.result.first in
+    let q = found_at c.args.self.now c.args.y c.loop-a.a c.rule-rule.result c.alternative.result c.requires.there c.rule-rule.ensures c.loop-a-test.true c.alternative.ensures in
     c.requires.right (first + 0) (q.stood.inside 0 h) (c.loop-a.a, q.below, subst (λ (z : Alternative). Of z (first + 0)) q.same (omega arith, omega arith))
 
 pub loop-a-preserved : goal.loop-a-preserved
 loop-a-preserved g c =
     let o = g.K.WeightKind.kind in
     let l = c.args.self.now in
-    let q = found_at l c.args.y c.loop-a.a c.rule-rule.result c.alternative-alternative.result c.requires.there c.rule-rule.ensures c.loop-a-test.true c.alternative-alternative.ensures in
+    let q = found_at l c.args.y c.loop-a.a c.rule-rule.result c.alternative.result c.requires.there c.rule-rule.ensures c.loop-a-test.true c.alternative.ensures in
     sum_step o g.met.K.WeightKind.laws (λ b. tail_value o (value_at o l) (alternative (rules_at l) c.args.y b) l.size) c.loop-a.a c.loop-a.total c.rest_total.result c.plus-total.result c.loop-a.invariant
     (c.rest_total.ensures ∙ ap (λ z. tail_value o (value_at o l) z l.size) (sym q.items)) c.plus-total.ensures
 

@@ -9,4 +9,4 @@ use Rattle.tables.proofs.level.Level.tail_total.Given as goal
 abbrev pub invariant-loop-k : goal.invariant-loop-k
 invariant-loop-k g l =
     let o = g.K.WeightKind.kind in
-    l.total ≡ sum_of o (split_term o (value_at o l.self) (lists_at l.self).labels l.alternative l.slot l.self.size) (below l.k)
+    l.total ≡ sum_of o (split_term o (value_at o l.self) (lists_at l.self).labels l.fn.tail.alternative l.fn.tail.slot l.self.size) (below l.k)
