@@ -107,7 +107,7 @@ impl WeightKind for Cheapest {
         ensures { result.cost ≡ 4294967295 }
     {
         Cheapest {
-            cost: 4_294_967_295,
+            cost: u32::MAX,
         }
     }
 
@@ -138,7 +138,7 @@ impl WeightKind for Cheapest {
     }
 
     fn show(self) -> Option<u64> {
-        if self.cost == 4_294_967_295 {
+        if self.cost == u32::MAX {
             None
         } else {
             Some(u64::from(self.cost))
