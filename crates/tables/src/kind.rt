@@ -106,9 +106,7 @@ impl WeightKind for Cheapest {
     fn nothing() -> Cheapest
         ensures { result.cost ≡ 4294967295 }
     {
-        Cheapest {
-            cost: u32::MAX,
-        }
+        Cheapest { cost: u32::MAX }
     }
 
     fn one() -> Cheapest

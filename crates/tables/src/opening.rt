@@ -96,11 +96,16 @@ impl<'f, 't> OpenTable<'f, 't> {
         self.family.map_or(0, |family| family.names())
     }
 
-    // How many rows there are.
-    fn rows(&self) -> usize
-        ensures { result ≡ rows_open self.now.family }
+    // The shape of the table.
+    fn shape(&self) -> Shape
+        ensures rows { result.rows ≡ rows_open self.now.family }
+        ensures top { result.top ≡ self.now.top }
     {
-        self.family.map_or(0, |family| row_count(family))
+        let rows = self.family.map_or(0, |family| row_count(family));
+        Shape {
+            rows,
+            top: self.top,
+        }
     }
 
     // The largest size.
@@ -115,8 +120,9 @@ impl<'f, 't> OpenTable<'f, 't> {
         ensures value { result ≡ count_at self.now row size }
         ensures total { row < rows (rules_open self.now.family) → size ≤ self.now.top → result ≡ (total_at count_kind (rules_open self.now.family) row size).value }
     {
-        if row < self.rows() && size <= self.top {
-            self.table[row * (self.top + 1) + size].value
+        let shape = self.shape();
+        if row < shape.rows && size <= shape.top {
+            self.table[shape.place(row, size)].value
         } else {
             0
         }

@@ -42,7 +42,8 @@ impl Shape {
 
 // How many rows the family's table has.
 pub(crate) fn row_count(family: &Family) -> usize
-    ensures { result ≡ rows_of family.now }
+    ensures rows { result ≡ rows_of family.now }
+    ensures few { result ≤ 160 }
 {
     family.names() + family.items()
 }

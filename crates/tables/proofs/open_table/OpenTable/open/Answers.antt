@@ -6,15 +6,11 @@ use Rattle.tables.specs.Openings.{FirstWrong, no_room, wrong}
 use Rattle.tables.proofs.Stored.{rows-model}
 use Rattle.tables.proofs.open_table.OpenTable.open.Goals as goal
 
-pub first_wrong-requires : goal.first_wrong-requires
-first_wrong-requires c =
+pub first_wrong-requires-clause-prepared : goal.first_wrong-requires-clause-prepared
+first_wrong-requires-clause-prepared c =
     let s = c.in_ok-shape.shape in
-    let fits = c.in_ok-shape.ensures in
     let most : s.rows * (s.top + 1) ≤ 160 * 41 = mul-le-mul {n₁ = s.rows} {m₁ = s.top + 1} {n₂ = 160} {m₂ = 41} s.few (omega (arith, s.low)) in
-    record {
-      room = omega (arith, fits.0.long, ap₂ entries fits.1 fits.2);
-      prepared = record { rows_all = fits.1 ∙ rows-model c.args.family.now; room = omega (arith, c.as_mut_slice-totals.ensures.len, c.args.self.now.scratch.long) };
-    }
+    record { rows_all = c.in_ok-shape.ensures.1 ∙ rows-model c.args.family.now; room = omega (arith, c.as_mut_slice-totals.ensures.len, c.args.self.now.scratch.long) }
 
 pub returns-in_err-shape : goal.returns-in_err-shape
 returns-in_err-shape c =
