@@ -1,11 +1,10 @@
 -- One write after another to a table at one size. Assumes nothing.
-use Rattle.std.proofs.Common.{◌≡◌, ℕ, ◌+◌, ◌<◌, ◌≤◌, ◌⊎◌, Bool, true, false, List, length, set, get_or, refl, sym, ap, ◌∙◌, subst, inl, inr, ⊎_elim, arith}
+use Rattle.std.proofs.Common.{◌≡◌, ℕ, ◌+◌, ◌<◌, ◌≤◌, ◌⊎◌, false, length, set, get_or, refl, sym, ap, ◌∙◌, subst, inl, inr, ⊎_elim, arith}
 use Rattle.std.proofs.lemmas.Bool.{cases_eq}
 use Rattle.std.specs.Borrow.{Bor}
 use Rattle.theory.specs.Kinds.{Kind, Laws}
-use Rattle.theory.specs.Orders.{upward}
 use Rattle.theory.specs.Families.{Defined, item_count, tail_at}
-use Rattle.theory.specs.Totals.{total, tail_value, alternatives_value}
+use Rattle.theory.specs.Totals.{tail_value, alternatives_value}
 use Rattle.theory.specs.Tables.{entry_at, item_row, rows}
 use Rattle.files.specs.Grammars.{rule_at, alternative_at}
 use Rattle.files.specs.declared.item.Rule.{Rule}
@@ -18,8 +17,7 @@ use Rattle.tables.specs.declared.level.Level.{Level}
 use Rattle.tables.specs.declared.shape.Shape.{Shape}
 use Rattle.tables.proofs.Keeps.{keeps}
 use Rattle.tables.proofs.Stored.{ranks_of, length-model, Found, found}
-use Rattle.tables.proofs.Views.{entry_inside, changed_none}
-use Rattle.tables.proofs.Rows.{wrote_none, wrote_then, wrote_fewer, wrote_right, put_wrote_at}
+use Rattle.tables.proofs.Rows.{wrote_then, wrote_right, put_wrote_at}
 use Rattle.tables.proofs.Sizes.{ready_right, ready_wrote, ready_fewer, ready_more, ready_size, name_done, name_bare}
 
 -- what is said of the family, the shape and the size holds before and after
@@ -72,18 +70,12 @@ module _ {K : Type 0} (o : Kind K) (laws : Laws o) where
 
   -- items' rows
 
-  pub writes_none : (P : ℕ → Type 0) (a : Level K) → ((j : ℕ) → P j → ⊥) → Writes o P a a
-  writes_none P a none = record { kept = kept_none a; wrote = wrote_none o laws (rules_at a) (defined a) a.shape.top a.size a.low P a.table.now none }
-
   pub writes_then : (P Q R : ℕ → Type 0) (a b c : Level K) → ((j : ℕ) → R j → P j ⊎ Q j) → Writes o P a b → Writes o Q b c → Writes o R a c
   writes_then P Q R a b c split x y = record {
     kept = kept_then a b c x.kept y.kept;
     wrote = wrote_then o laws (rules_at a) (defined a) a.shape.top a.size a.low P Q R a.table.now b.table.now c.table.now split x.wrote
         (back a b x.kept (λ f s n. Wrote o (rules_of f.now) s.top n Q b.table.now c.table.now) y.wrote);
   }
-
-  pub writes_fewer : (P R : ℕ → Type 0) (a b : Level K) → ((j : ℕ) → R j → P j) → Writes o P a b → Writes o R a b
-  writes_fewer P R a b fewer x = record { kept = x.kept; wrote = wrote_fewer o laws (rules_at a) (defined a) a.shape.top a.size a.low P R a.table.now b.table.now fewer x.wrote }
 
   pub writes_lower : (P : ℕ → Type 0) (a b : Level K) → Writes o P a b → LowerRight o a → LowerRight o b
   writes_lower P a b x lower =

@@ -1,5 +1,5 @@
 -- Tables whose entries are totals, row by row. Assumes nothing.
-use Rattle.std.proofs.Common.{◌≡◌, ℕ, ◌-◌, ◌<◌, ◌≤◌, Bool, ltb, List, [], length, get_or, sym, ap, ◌∙◌, subst, ⊎_elim, not-suc-le-zero, arith, ap₂, take, length-take-le, true, false}
+use Rattle.std.proofs.Common.{◌≡◌, ℕ, ◌-◌, ◌<◌, ◌≤◌, Bool, ltb, List, length, get_or, sym, ap, ◌∙◌, subst, ⊎_elim, arith, ap₂, take, length-take-le, true, false}
 use mathlib.Core.Logic.{∥∥₁_elim}
 use Rattle.std.specs.Prelude.{not, ◌==◌, Some, None, Option, MatchOption}
 use Rattle.std.specs.List.{position_or_len, zip}
@@ -83,10 +83,6 @@ kept_totals F N t kept S law = record {
 
 pub open_totals : (t : OpenTable) → Totals count_kind (rules_open t.family) t.top t.table.now
 open_totals t = kept_totals (rules_open t.family) t.top t.table.now t.totals
-
--- where there are no names, there are no entries
-pub no_totals : {K : Type 0} (o : Kind K) (N : ℕ) (t : List K) → Totals o [] N t
-no_totals o N t S law = record { names = λ y n h w. absurd (not-suc-le-zero h); items = λ j n h w. absurd (not-suc-le-zero h) }
 
 -- a table compared with the totals
 

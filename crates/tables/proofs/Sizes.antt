@@ -1,5 +1,5 @@
 -- Names by rank, and one size after another. Assumes nothing.
-use Rattle.std.proofs.Common.{◌≡◌, ℕ, ◌+◌, ◌<◌, ◌≤◌, Bool, true, false, ◌⊎◌, List, length, set, sym, ap, ◌∙◌, subst, inl, inr, ⊎_elim, true≢false, arith}
+use Rattle.std.proofs.Common.{◌≡◌, ℕ, ◌+◌, ◌<◌, ◌≤◌, Bool, false, ◌⊎◌, List, length, set, sym, ◌∙◌, subst, inl, inr, ⊎_elim, arith}
 use Rattle.std.proofs.lemmas.Bool.{cases_eq}
 use Rattle.theory.specs.Kinds.{Kind, Laws}
 use Rattle.theory.specs.Orders.{upward}
@@ -126,14 +126,3 @@ module _ {K : Type 0} (o : Kind K) (laws : Laws o) (F : Rules) (nul : ℕ → Bo
 
 abbrev pub Bare : {K : Type 0} → Kind K → ℕ → (ℕ → Bool) → List K → ℕ → Type 0
 Bare o N nul t y = (z : ℕ) → z < y → nul z ≡ false → entry_of o N t z 0 ≡ o.none
-
-module _ {K : Type 0} (o : Kind K) (N : ℕ) (nul : ℕ → Bool) (t : List K) (y : ℕ) (before : Bare o N nul t y) where
-  pub bare_skip : nul y ≡ true → Bare o N nul t (y + 1)
-  bare_skip skip z h e = ⊎_elim (λ (q : z ≡ y). absurd (true≢false (sym (ap nul q ∙ skip) ∙ e))) (λ (q : z ≡ y → ⊥). before z (omega arith) e) (cases_eq z y)
-
-  pub bare_put : (v : K) → entry_at N y 0 < length t → v ≡ o.none → Bare o N nul (set t (entry_at N y 0) v) (y + 1)
-  bare_put v there e z l b =
-      ⊎_elim
-      (λ (q : z ≡ y). subst (λ (x : ℕ). entry_of o N (set t (entry_at N y 0) v) x 0 ≡ o.none) (sym q) (entry_same o N t y 0 v there ∙ e))
-      (λ (q : z ≡ y → ⊥). put_changed o N 0 t y v (omega arith) z 0 (omega arith) (λ p x. q x) ∙ before z (omega arith) b)
-      (cases_eq z y)

@@ -15,9 +15,8 @@ use Rattle.files.specs.declared.item.Item.TheVariants.{Vacant, Use, Name, Litera
 use Rattle.files.specs.declared.item.Label.{Label}
 use Rattle.files.specs.declared.item.Rule.{Rule}
 use Rattle.files.specs.declared.item.Alternative.{Alternative}
-use Rattle.tables.specs.Tables.{rules_of, rows_of, rules_open, rows_open, entries}
-use Rattle.tables.specs.Fillings.{Prepared, Below, Stands, Of, Under}
-use Rattle.tables.specs.declared.shape.Shape.{Shape}
+use Rattle.tables.specs.Tables.{rules_of, rows_of, rules_open, rows_open}
+use Rattle.tables.specs.Fillings.{Below, Stands, Of, Under}
 use Rattle.tables.proofs.Keeps.{Fitting, keeps}
 
 pub length-model : (l : Lists) → length (model l) ≡ length l.rules
@@ -33,14 +32,6 @@ rows-opened (Some f) = rows-model f.now
 -- the family's ranks
 abbrev pub ranks_of : (f : Family) → Ranks (rules_of f) (marked f.nullable)
 ranks_of f = record { rank = λ y. get_or f.ranks y 0; low = (keeps f).ranked.low; falls = (keeps f).ranked.falls }
-
--- as many entries in another table
-pub prepared_again : (f : Family) (s : Shape) (m n : ℕ) → Prepared f s m → n ≡ m → Prepared f s n
-prepared_again f s m n p e = record { rows_all = p.rows_all; room = omega (arith, p.room) }
-
--- how many entries there are, by the family
-pub prepared_room : (f : Family) (s : Shape) (n : ℕ) → Prepared f s n → entries (rows (rules_of f)) s.top ≤ n
-prepared_room f s n p = subst (λ (r : ℕ). entries r s.top ≤ n) p.rows_all p.room
 
 pub length-alternative : (ls : List Label) (a : Alternative) → a.count ≤ length a.items → length (alternative_model ls a) ≡ a.count
 length-alternative ls a h = length-map (take a.count a.items) (item_model ls) ∙ length-take-le a.count a.items h

@@ -1,5 +1,5 @@
 -- What a write to one entry of a table leaves. Assumes nothing.
-use Rattle.std.proofs.Common.{◌≡◌, ℕ, ◌<◌, ◌≤◌, List, length, set, refl, ◌∙◌, subst, arith, get_or-set_other, get_or-set_same}
+use Rattle.std.proofs.Common.{◌≡◌, ℕ, ◌<◌, ◌≤◌, List, length, set, refl, ◌∙◌, arith, get_or-set_other, get_or-set_same}
 use Rattle.theory.specs.Kinds.{Kind}
 use Rattle.theory.specs.Tables.{entry_at}
 use Rattle.theory.proofs.Tables.{entries_placed}

@@ -1,8 +1,7 @@
-use Rattle.std.proofs.Common.{ℕ, ◌+◌, ◌∙◌, subst, ap₂, arith}
+use Rattle.std.proofs.Common.{ℕ, ◌+◌, subst, ap₂, arith}
 use Rattle.families.specs.Sound.{marked}
 use Rattle.tables.specs.Tables.{rules_of, entries, Totals}
 use Rattle.tables.proofs.Keeps.{keeps}
-use Rattle.tables.proofs.Stored.{rows-model}
 use Rattle.tables.proofs.Sizes.{ready_all}
 use Rattle.tables.proofs.filling.fill.Goals as goal
 

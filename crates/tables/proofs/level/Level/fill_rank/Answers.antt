@@ -1,4 +1,4 @@
-use Rattle.std.proofs.Common.{◌≡◌, ◌+◌, sym, ap, ◌∙◌, subst}
+use Rattle.std.proofs.Common.{◌+◌, sym, ◌∙◌, subst}
 use Rattle.tables.specs.declared.level.Level.{Level}
 use Rattle.tables.proofs.Levels.{Ranking, ranking_name, ranking_skip}
 use Rattle.tables.proofs.level.Level.fill_rank.Goals as goal

@@ -1,7 +1,7 @@
-use Rattle.std.proofs.Common.{ℕ, ◌+◌, ◌*◌, ◌≤◌, refl, ap, ◌∙◌, subst, ap₂, mul-le-mul, arith}
+use Rattle.std.proofs.Common.{ℕ, ◌+◌, ◌*◌, ◌≤◌, refl, ◌∙◌, subst, mul-le-mul, arith}
 use Rattle.std.proofs.lemmas.Result.{err_from_is_err_and}
 use Rattle.tables.specs.Counts.{count_kind}
-use Rattle.tables.specs.Tables.{rules_of, entries, Totals}
+use Rattle.tables.specs.Tables.{rules_of, Totals}
 use Rattle.tables.specs.Openings.{FirstWrong, no_room, wrong}
 use Rattle.tables.proofs.Stored.{rows-model}
 use Rattle.tables.proofs.open_table.OpenTable.open.Goals as goal
