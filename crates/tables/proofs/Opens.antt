@@ -19,11 +19,11 @@ use Rattle.theory.proofs.Orders.{upward-splits}
 use Rattle.theory.proofs.Tables.{entries_placed}
 use Rattle.theory.proofs.Totals.{total-any_order, tail_total_value}
 use Rattle.tables.specs.Counts.{count_kind}
-use Rattle.tables.specs.Tables.{entries, entry_of, total_at, rules_open, Totals}
+use Rattle.tables.specs.Tables.{entries, entry_of, total_at, rules_of, Totals}
 use Rattle.tables.specs.Fillings.{Ready}
 use Rattle.tables.specs.Openings.{first_unequal, FirstWrong}
 use Rattle.tables.specs.declared.count.Count.{Count}
-use Rattle.tables.specs.declared.open_table.OpenTable.{OpenTable}
+use Rattle.tables.specs.declared.checked.Checked.{Checked}
 use Rattle.tables.specs.KindLaws.{same_count, count_laws}
 
 -- a tail's total does not depend on the order
@@ -81,8 +81,8 @@ kept_totals F N t kept S law = record {
   items = λ j n h w. same_count (∥∥₁_elim kept (ℕ_set _ _) (λ (totals : Totals count_kind F N t). ap (λ x. x.value) ((totals S law).items j n h w)));
 }
 
-pub open_totals : (t : OpenTable) → Totals count_kind (rules_open t.family) t.top t.table.now
-open_totals t = kept_totals (rules_open t.family) t.top t.table.now t.totals
+pub checked_totals : (c : Checked) → Totals count_kind (rules_of c.family.now) c.shape.top c.table.now
+checked_totals c = kept_totals (rules_of c.family.now) c.shape.top c.table.now c.totals
 
 -- a table compared with the totals
 

@@ -25,10 +25,6 @@ length-model l = length-map l.rules (rule_model l)
 pub rows-model : (f : Family) → rows_of f ≡ rows (rules_of f)
 rows-model f = ap₂ ◌+◌ (sym (length-model (lists_of f.grammar))) (sym (keeps f).fitting.counted)
 
-pub rows-opened : (o : Option (Bor Family)) → rows_open o ≡ rows (rules_open o)
-rows-opened None = refl
-rows-opened (Some f) = rows-model f.now
-
 -- the family's ranks
 abbrev pub ranks_of : (f : Family) → Ranks (rules_of f) (marked f.nullable)
 ranks_of f = record { rank = λ y. get_or f.ranks y 0; low = (keeps f).ranked.low; falls = (keeps f).ranked.falls }

@@ -4,24 +4,17 @@ use Rattle.theory.specs.Kinds.{Kind}
 use Rattle.theory.specs.Orders.{upward}
 use Rattle.theory.specs.Families.{Item as Symbol, Family as Rules, item_count, tail_at, Known}
 use Rattle.theory.specs.Totals.{total, tail_total, tail_value}
-use Rattle.theory.specs.Tables.{item_row, rows}
+use Rattle.theory.specs.Tables.{item_row}
 use Rattle.files.specs.Grammars.{Lists, lists_of, rule_at, alternative_at}
 use Rattle.files.specs.Models.{model, alternative_model}
 use Rattle.families.specs.Sound.{marked}
-use Rattle.families.specs.declared.family.Family.{Family}
 use Rattle.files.specs.declared.item.Item.{Item}
 use Rattle.files.specs.declared.item.Item.TheVariants.{Vacant, Use, Name, Literal}
 use Rattle.files.specs.declared.item.Label.{Label}
 use Rattle.files.specs.declared.item.Alternative.{Alternative}
-use Rattle.tables.specs.Tables.{rules_of, entries, entry_of, Beyond}
-use Rattle.tables.specs.declared.shape.Shape.{Shape}
+use Rattle.tables.specs.Tables.{rules_of, entry_of, Beyond}
 use Rattle.tables.specs.declared.level.Level.{Level}
 use Rattle.tables.specs.declared.tail.Tail.{Tail}
-
--- a table of `size` entries has place for the family's, in that shape
-pub record Prepared (f : Family) (s : Shape) (size : ℕ) : Type 0 where
-  pub rows_all : s.rows ≡ rows (rules_of f)
-  pub room : entries s.rows s.top ≤ size
 
 -- a name's number is below m
 abbrev pub Below : ℕ → Item → Type 0

@@ -2,12 +2,12 @@
 ghost use Rattle.std.specs.Prelude.{◌≡◌, ℕ, ◌+◌, ◌<◌, ◌≤◌, List, length, if◌then◌else◌, nat_eq, slice_index, slice_set};
 ghost use Rattle.theory.specs.Families.{item_count, tail_at};
 ghost use Rattle.theory.specs.Totals.{item_value, tail_value, alternatives_value};
-ghost use Rattle.theory.specs.Tables.{entry_at, item_row};
+ghost use Rattle.theory.specs.Tables.{entry_at, item_row, rows};
 ghost use Rattle.files.specs.Models.{item_model};
 ghost use Rattle.families.specs.Sound.{marked};
 ghost use Rattle.files.specs.declared.item.Label.{Label};
-ghost use Rattle.tables.specs.Tables.{rules_of, Beyond, Fills};
-ghost use Rattle.tables.specs.Fillings.{Prepared, Below, Stands, Of, Under, Ready, number_of, symbols_of, rules_at, lists_at, value_at, RightAt, LowerRight, SizesDone, RanksDone, Kept, Writes, FillsName};
+ghost use Rattle.tables.specs.Tables.{rules_of, entries, Beyond, Fills};
+ghost use Rattle.tables.specs.Fillings.{Below, Stands, Of, Under, Ready, number_of, symbols_of, rules_at, lists_at, value_at, RightAt, LowerRight, SizesDone, RanksDone, Kept, Writes, FillsName};
 
 use crate::kind::WeightKind;
 use crate::level::Level;
@@ -218,7 +218,8 @@ impl<'f, 't, K: WeightKind> Level<'f, 't, K> {
 
 // Writes each entry's total.
 pub(crate) fn fill_all<K: WeightKind>(shape: Shape, family: &Family, table: &mut [K])
-    requires prepared { Prepared family.now shape (length table.old) }
+    requires rows { shape.rows ≡ rows (rules_of family.now) }
+    requires room { entries shape.rows shape.top ≤ length table.old }
     ensures ready { Ready K.kind (rules_of family.now) (marked family.now.nullable) shape.top (shape.top + 1) (λ _. ⊥) table.new }
     ensures beyond { Beyond shape.rows shape.top table.old table.new }
 {

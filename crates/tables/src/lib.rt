@@ -2,6 +2,7 @@
 #![tactic(auto)]
 
 pub mod cheapest;
+pub(crate) mod checked;
 pub mod count;
 pub mod filling;
 pub mod kind;

@@ -1,18 +1,17 @@
 // Opening a table, and what an open table is asked for.
-ghost use Rattle.std.specs.Prelude.{◌≡◌, ℕ, ◌+◌, ◌-◌, ◌*◌, ◌<◌, ◌≤◌, [], length, IfErr, MatchOption, None};
+ghost use Rattle.std.specs.Prelude.{◌≡◌, ℕ, ◌+◌, ◌-◌, ◌*◌, ◌<◌, ◌≤◌, [], length, IfErr, MatchOption, Some, None};
 ghost use Rattle.files.specs.declared.fault.Fault.TheVariants.{OutOfMemory};
 ghost use Rattle.theory.specs.Tables.{rows};
-ghost use Rattle.tables.specs.Tables.{rules_of, rules_open, rows_open, names_open, entries, total_at, Totals};
+ghost use Rattle.tables.specs.Tables.{rules_of, rules_open, names_open, entries, total_at, Totals};
 ghost use Rattle.tables.specs.Counts.{count_kind};
-ghost use Rattle.tables.specs.Fillings.{Prepared};
-ghost use Rattle.tables.specs.Openings.{first_unequal, FirstWrong, Opened, count_at};
+ghost use Rattle.tables.specs.Openings.{first_unequal, FirstWrong, Opened, family_open, top_open, count_in, count_at};
 
+use crate::checked::Checked;
 use crate::count::Count;
 use crate::filling::fill_all;
 use crate::open_table::OpenTable;
 use crate::scratch::Scratch;
 use crate::shape::Shape;
-use crate::shaping::row_count;
 use families::family::Family;
 use files::fault::Fault;
 use std::alloc::Global;
@@ -38,31 +37,40 @@ fn first_difference(table: &[Count], totals: &[Count]) -> Option<usize>
         .position(|(entry, total)| entry != total)
 }
 
-// The first index at which an entry is not its total; `totals` is written.
-fn first_wrong(
-    shape: Shape,
-    family: &Family,
-    table: &[Count],
-    totals: &mut [Count],
-) -> Option<usize>
-    requires room { entries shape.rows shape.top ≤ length table.now }
-    requires prepared { Prepared family.now shape (length totals.old) }
-    ensures { MatchOption result (Totals count_kind (rules_of family.now) shape.top table.now) (FirstWrong (rules_of family.now) shape.top table.now) }
-{
-    fill_all(shape, family, totals);
-    let size = shape.entries();
-    first_difference(&table[..size], &totals[..size])
+impl Scratch {
+    // The first index at which an entry is not its total.
+    fn first_wrong(&mut self, shape: Shape, family: &Family, table: &[Count]) -> Option<usize>
+        requires rows { shape.rows ≡ rows (rules_of family.now) }
+        requires room { entries shape.rows shape.top ≤ length table.now }
+        ensures { MatchOption result (Totals count_kind (rules_of family.now) shape.top table.now) (FirstWrong (rules_of family.now) shape.top table.now) }
+    {
+        fill_all(shape, family, &mut self.totals);
+        let size = shape.entries();
+        first_difference(&table[..size], &self.totals[..size])
+    }
+}
+
+impl Checked<'_, '_> {
+    // The entry of a row at a size; 0 where there is none.
+    fn count(&self, row: usize, size: usize) -> u64
+        ensures value { result ≡ count_in (Some self.now) row size }
+        ensures total { row < rows (rules_of self.now.family.now) → size ≤ self.now.shape.top → result ≡ (total_at count_kind (rules_of self.now.family.now) row size).value }
+    {
+        if row < self.shape.rows && size <= self.shape.top {
+            self.table[self.shape.place(row, size)].value
+        } else {
+            0
+        }
+    }
 }
 
 impl<'f, 't> OpenTable<'f, 't> {
     // A place for a table; no family is open in it.
     pub fn new(scratch: Scratch) -> OpenTable<'f, 't>
-        ensures { result.family ≡ None }
+        ensures { result.checked ≡ None }
     {
         OpenTable {
-            family: None,
-            table: &[],
-            top: 0,
+            checked: None,
             scratch,
         }
     }
@@ -72,59 +80,43 @@ impl<'f, 't> OpenTable<'f, 't> {
         ensures { Opened result self.old self.new family.entry table.entry top }
     {
         let shape = Shape::new(family, table.len(), top)?;
-        let totals = self.scratch.totals.as_mut_slice();
-        if let Some(index) = first_wrong(shape, family, table, totals) {
+        if let Some(index) = self.scratch.first_wrong(shape, family, table) {
             return Err(Fault::WrongEntry { index });
         }
-        self.family = Some(family);
-        self.table = table;
-        self.top = top;
+        self.checked = Some(Checked {
+            family,
+            table,
+            shape,
+        });
         Ok(())
     }
 
     // The family that is open.
     pub fn family(&self) -> Option<&'f Family>
-        ensures { result ≡ self.now.family }
+        ensures { result ≡ family_open self.now }
     {
-        self.family
+        self.checked.map(|checked| checked.family)
     }
 
     // How many names there are.
     pub fn names(&self) -> usize
-        ensures { result ≡ names_open self.now.family }
+        ensures { result ≡ names_open (family_open self.now) }
     {
-        self.family.map_or(0, |family| family.names())
-    }
-
-    // The shape of the table.
-    fn shape(&self) -> Shape
-        ensures rows { result.rows ≡ rows_open self.now.family }
-        ensures top { result.top ≡ self.now.top }
-    {
-        let rows = self.family.map_or(0, |family| row_count(family));
-        Shape {
-            rows,
-            top: self.top,
-        }
+        self.checked.map_or(0, |checked| checked.family.names())
     }
 
     // The largest size.
     pub fn top(&self) -> usize
-        ensures { result ≡ self.now.top }
+        ensures { result ≡ top_open self.now }
     {
-        self.top
+        self.checked.map_or(0, |checked| checked.shape.top)
     }
 
     // The entry of a row at a size; 0 where there is none.
     pub fn count(&self, row: usize, size: usize) -> u64
         ensures value { result ≡ count_at self.now row size }
-        ensures total { row < rows (rules_open self.now.family) → size ≤ self.now.top → result ≡ (total_at count_kind (rules_open self.now.family) row size).value }
+        ensures total { row < rows (rules_open (family_open self.now)) → size ≤ top_open self.now → result ≡ (total_at count_kind (rules_open (family_open self.now)) row size).value }
     {
-        let shape = self.shape();
-        if row < shape.rows && size <= shape.top {
-            self.table[shape.place(row, size)].value
-        } else {
-            0
-        }
+        self.checked.map_or(0, |checked| checked.count(row, size))
     }
 }

@@ -42,8 +42,7 @@ impl Shape {
 
 // How many rows the family's table has.
 pub(crate) fn row_count(family: &Family) -> usize
-    ensures rows { result ≡ rows_of family.now }
-    ensures few { result ≤ 160 }
+    ensures { result ≡ rows_of family.now }
 {
     family.names() + family.items()
 }
