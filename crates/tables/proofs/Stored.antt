@@ -1,5 +1,5 @@
 -- What stored rules are as names, alternatives and numbered items. Assumes nothing.
-use Rattle.std.proofs.Common.{◌≡◌, ℕ, zero, suc, ◌+◌, ◌<◌, ◌≤◌, List, [], ◌∷◌, map, length, get_or, take, drop, Some, None, Option, sym, refl, ap, ◌∙◌, subst, ap₂, le_of_suc-le-suc, not-suc-le-zero, arith, length-drop, length-take-le, get_or-drop, get_or-take, Bor}
+use Rattle.std.proofs.Common.{◌≡◌, ℕ, zero, suc, ◌+◌, ◌<◌, ◌≤◌, List, [], ◌∷◌, map, length, get_or, take, drop, sym, ap, ◌∙◌, subst, ap₂, le_of_suc-le-suc, not-suc-le-zero, arith, length-drop, length-take-le, get_or-drop, get_or-take}
 use Rattle.std.proofs.lemmas.List.{length-map, get_or-map}
 use Rattle.theory.specs.Families.{Item as Symbol, alternatives, alternative, Known, Defined, item_count, tail_at, first_item, ItemAt}
 use Rattle.theory.specs.Nullable.{Ranks}
@@ -15,7 +15,7 @@ use Rattle.files.specs.declared.item.Item.TheVariants.{Vacant, Use, Name, Litera
 use Rattle.files.specs.declared.item.Label.{Label}
 use Rattle.files.specs.declared.item.Rule.{Rule}
 use Rattle.files.specs.declared.item.Alternative.{Alternative}
-use Rattle.tables.specs.Tables.{rules_of, rows_of, rules_open, rows_open}
+use Rattle.tables.specs.Tables.{rules_of, rows_of}
 use Rattle.tables.specs.Fillings.{Below, Stands, Of, Under}
 use Rattle.tables.proofs.Keeps.{Fitting, keeps}
 

@@ -53,7 +53,7 @@ impl<'f, 't, K: WeightKind> Level<'f, 't, K> {
         ensures row { result ≡ item_row (rules_at self.now) (number_of tail) }
         ensures within { result < self.now.shape.rows }
     {
-        self.family.names() + tail.alternative.first + tail.slot
+        self.family.names() + tail.item_index()
     }
 
     // The total of an item at k. What is neither a name nor a literal stands in no family; it has the total of an
@@ -77,7 +77,7 @@ impl<'f, 't, K: WeightKind> Level<'f, 't, K> {
         requires right { tail.slot < tail.alternative.count → RightAt K.kind self.now (number_of tail) k }
         ensures { result ≡ tail_value K.kind (value_at K.kind self.now) (symbols_of (lists_at self.now).labels tail) k }
     {
-        if tail.has_item() {
+        if !tail.is_over() {
             self.entry(self.row(tail), k)
         } else if k == 0 {
             K::one()

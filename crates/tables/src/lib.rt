@@ -13,4 +13,4 @@ pub mod opening;
 pub mod scratch;
 pub mod shape;
 pub mod shaping;
-pub(crate) mod tail;
+pub mod tail;

@@ -1,6 +1,6 @@
-use Rattle.std.proofs.Common.{◌-◌, sym, ap, ◌∙◌, subst, ap₂, arith}
+use Rattle.std.proofs.Common.{◌≡◌, ◌+◌, ◌-◌, min, drop, sym, ap, ◌∙◌, subst, ap₂, arith}
 use Rattle.theory.specs.Totals.{item_value, tail_value}
-use Rattle.files.specs.Models.{item_model}
+use Rattle.files.specs.Models.{item_model, alternative_model}
 use Rattle.tables.specs.Fillings.{Below, symbols_of, lists_at, value_at}
 use Rattle.tables.proofs.Stored.{item_below}
 use Rattle.tables.proofs.Rows.{split_term, sum_step, tail_sum}
@@ -17,7 +17,12 @@ loop-k-preserved g c =
     let o = g.K.WeightKind.kind in
     let l = c.args.self.now in
     let first = c.item_total.ensures (lists_at l).labels ∙ ap (λ i. item_value o (value_at o l) (item_model (lists_at l).labels i) c.loop-k.k) c.item-item.ensures in
-    let rest = c.rest_total.ensures ∙ ap (λ t. tail_value o (value_at o l) (symbols_of (lists_at l).labels t) (l.size - c.loop-k.k)) c.rest-rest.ensures in
+    let a = c.args.tail.alternative in
+    let slot : min 18446744073709551615 (c.args.tail.slot + 1) ≡ c.args.tail.slot + 1 = omega (arith, c.requires.there, c.requires.stands.six) in
+    let rest =
+    c.rest_total.ensures
+    ∙ ap (λ t. tail_value o (value_at o l) (symbols_of (lists_at l).labels t) (l.size - c.loop-k.k)) c.rest-rest.ensures
+    ∙ ap (λ n. tail_value o (value_at o l) (drop n (alternative_model (lists_at l).labels a)) (l.size - c.loop-k.k)) slot in
     sum_step o g.met.K.WeightKind.laws (split_term o (value_at o l) (lists_at l).labels c.args.tail.alternative c.args.tail.slot l.size) c.loop-k.k c.loop-k.total c.times-split.result c.plus-total.result c.loop-k.invariant
     (c.times-split.ensures ∙ ap₂ o.product first rest) c.plus-total.ensures
 
