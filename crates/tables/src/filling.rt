@@ -29,6 +29,7 @@ fn literal_total<K: WeightKind>(size: u32, cost: u32, k: usize) -> K
 }
 
 impl<'f, 't, K: WeightKind> Level<'f, 't, K> {
+    // The row's entry at k.
     fn entry(&self, row: usize, k: usize) -> K
         requires row { row < self.now.shape.rows }
         requires size { k ≤ self.now.size }
@@ -37,7 +38,7 @@ impl<'f, 't, K: WeightKind> Level<'f, 't, K> {
         self.table[self.shape.place(row, k)]
     }
 
-    // Writes the row's entry.
+    // Writes the row's entry at the size.
     fn put(&mut self, row: usize, value: K)
         requires { row < self.old.shape.rows }
         ensures kept { Kept self.old self.new }

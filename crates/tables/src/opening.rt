@@ -17,6 +17,7 @@ use files::fault::Fault;
 use std::alloc::Global;
 
 impl Scratch {
+    // Room for the totals, all reserved here.
     pub fn new(heap: Global) -> Result<Scratch, Fault>
         ensures { IfErr result (λ e. e ≡ OutOfMemory) }
     {
@@ -24,6 +25,17 @@ impl Scratch {
             return Err(Fault::OutOfMemory);
         };
         Ok(Scratch { totals })
+    }
+
+    // The first index at which an entry is not its total.
+    fn first_wrong(&mut self, shape: Shape, family: &Family, table: &[Count]) -> Option<usize>
+        requires rows { shape.rows ≡ rows (rules_of family.now) }
+        requires room { entries shape.rows shape.top ≤ length table.now }
+        ensures { MatchOption result (Totals count_kind (rules_of family.now) shape.top table.now) (FirstWrong (rules_of family.now) shape.top table.now) }
+    {
+        fill_all(shape, family, &mut self.totals);
+        let size = shape.entries();
+        first_difference(&table[..size], &self.totals[..size])
     }
 }
 
@@ -35,19 +47,6 @@ fn first_difference(table: &[Count], totals: &[Count]) -> Option<usize>
         .iter()
         .zip(totals)
         .position(|(entry, total)| entry != total)
-}
-
-impl Scratch {
-    // The first index at which an entry is not its total.
-    fn first_wrong(&mut self, shape: Shape, family: &Family, table: &[Count]) -> Option<usize>
-        requires rows { shape.rows ≡ rows (rules_of family.now) }
-        requires room { entries shape.rows shape.top ≤ length table.now }
-        ensures { MatchOption result (Totals count_kind (rules_of family.now) shape.top table.now) (FirstWrong (rules_of family.now) shape.top table.now) }
-    {
-        fill_all(shape, family, &mut self.totals);
-        let size = shape.entries();
-        first_difference(&table[..size], &self.totals[..size])
-    }
 }
 
 impl Checked<'_, '_> {
