@@ -35,7 +35,8 @@ impl Scratch {
     {
         fill_all(shape, family, &mut self.totals);
         let size = shape.entries();
-        first_difference(&table[..size], &self.totals[..size])
+        let totals = &self.totals[..size];
+        first_difference(&table[..size], totals)
     }
 }
 
