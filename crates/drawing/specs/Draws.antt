@@ -3,7 +3,7 @@ use Rattle.std.specs.Prelude.{◌≡◌, ℕ, ◌≤◌, cond, List, length, dro
 use Rattle.files.specs.declared.fault.Fault.{Fault}
 use Rattle.files.specs.declared.fault.Fault.TheVariants.{UnknownName, SizeTooLarge, TotalCapped, NumberTooLarge, StackTooShort, ListTooShort}
 use Rattle.tables.specs.Tables.{names_open}
-use Rattle.tables.specs.Openings.{count_at}
+use Rattle.tables.specs.Openings.{count_at, family_open, top_open}
 use Rattle.tables.specs.declared.open_table.OpenTable.{OpenTable}
 
 -- the answer tells how many places were written, and those behind are as they were; or the list was too short
@@ -14,8 +14,8 @@ LeftOver (Err e) old new = e ≡ ListTooShort
 -- the questions that come before the list is touched, in their order: the first that is answered no
 abbrev pub first_no : OpenTable → ℕ → ℕ → ℕ → ℕ → ℕ → Option Fault
 first_no t y n x places stack =
-    cond (nat_lt y (names_open t.family))
-    (cond (nat_le n t.top)
+    cond (nat_lt y (names_open (family_open t)))
+    (cond (nat_le n (top_open t))
     (cond (nat_lt (count_at t y n) 18446744073709551615)
     (cond (nat_lt x (count_at t y n))
     (cond (nat_le places stack) None (Some StackTooShort))

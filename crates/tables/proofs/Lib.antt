@@ -4,3 +4,4 @@ pub mod Stored
 pub mod Rows
 pub mod Sizes
 pub mod Opens
+pub mod Levels

@@ -1,8 +1,15 @@
 -- Tables whose entries are totals, row by row. Assumes nothing.
-use Rattle.std.proofs.Common.{◌≡◌, ℕ, ◌-◌, ◌<◌, ◌≤◌, Bool, ltb, List, [], length, get_or, sym, ap, ◌∙◌, subst, ⊎_elim, not-suc-le-zero, arith}
+use Rattle.std.proofs.Common.{◌≡◌, ℕ, ◌-◌, ◌<◌, ◌≤◌, Bool, ltb, List, length, get_or, sym, ap, ◌∙◌, subst, ⊎_elim, arith, ap₂, take, length-take-le, true, false}
 use mathlib.Core.Logic.{∥∥₁_elim}
+use Rattle.std.specs.Prelude.{not, ◌==◌, Some, None, Option, MatchOption}
+use Rattle.std.specs.List.{position_or_len, zip}
+use Rattle.std.proofs.lemmas.Grind.{common_steps}
+use Rattle.std.proofs.lemmas.List.{get_or-take}
+use Rattle.std.proofs.lemmas.List.Sums.{fails_before_first}
+use Rattle.std.proofs.lemmas.List.Quantifiers.{position-Some}
+use Rattle.std.proofs.lemmas.Slice.Zip.{get_or-zip, length-zip}
 use native.Mathlib.Nat.{ℕ_set}
-use Rattle.std.proofs.lemmas.Bool.{cases_lt, cond-true, cond-false, lt-ltb, le-ltb}
+use Rattle.std.proofs.lemmas.Bool.{cases_lt, cond-true, cond-false, lt-ltb, le-ltb, eqb-true, eqb-false, not-true, not-false}
 use Rattle.theory.specs.Kinds.{Kind, Laws}
 use Rattle.theory.specs.Orders.{Splits, upward}
 use Rattle.theory.specs.Families.{Item as Symbol, Family as Rules, tail_at}
@@ -12,12 +19,12 @@ use Rattle.theory.proofs.Orders.{upward-splits}
 use Rattle.theory.proofs.Tables.{entries_placed}
 use Rattle.theory.proofs.Totals.{total-any_order, tail_total_value}
 use Rattle.tables.specs.Counts.{count_kind}
-use Rattle.tables.specs.Tables.{entries, entry_of, total_at, rules_open, Totals}
+use Rattle.tables.specs.Tables.{entries, entry_of, total_at, rules_of, Totals}
 use Rattle.tables.specs.Fillings.{Ready}
-use Rattle.tables.specs.Openings.{FirstWrong}
+use Rattle.tables.specs.Openings.{first_unequal, FirstWrong}
 use Rattle.tables.specs.declared.count.Count.{Count}
-use Rattle.tables.specs.declared.open_table.OpenTable.{OpenTable}
-use Rattle.tables.specs.KindLaws.{same_count}
+use Rattle.tables.specs.declared.checked.Checked.{Checked}
+use Rattle.tables.specs.KindLaws.{same_count, count_laws}
 
 -- a tail's total does not depend on the order
 pub tail_total-any_order : {K : Type 0} (o : Kind K) → Laws o → (S R : ℕ → List ℕ) → Splits S → Splits R → (F : Rules) (is : List Symbol) (n : ℕ) → tail_total o S F is n ≡ tail_total o R F is n
@@ -74,12 +81,8 @@ kept_totals F N t kept S law = record {
   items = λ j n h w. same_count (∥∥₁_elim kept (ℕ_set _ _) (λ (totals : Totals count_kind F N t). ap (λ x. x.value) ((totals S law).items j n h w)));
 }
 
-pub open_totals : (t : OpenTable) → Totals count_kind (rules_open t.family) t.top t.table.now
-open_totals t = kept_totals (rules_open t.family) t.top t.table.now t.totals
-
--- where there are no names, there are no entries
-pub no_totals : {K : Type 0} (o : Kind K) (N : ℕ) (t : List K) → Totals o [] N t
-no_totals o N t S law = record { names = λ y n h w. absurd (not-suc-le-zero h); items = λ j n h w. absurd (not-suc-le-zero h) }
+pub checked_totals : (c : Checked) → Totals count_kind (rules_of c.family.now) c.shape.top c.table.now
+checked_totals c = kept_totals (rules_of c.family.now) c.shape.top c.table.now c.totals
 
 -- a table compared with the totals
 
@@ -102,3 +105,35 @@ module _ (F : Rules) (N : ℕ) (t u : List Count) (each : Each count_kind F N u)
         differs = λ e. differs (subst (λ (k : ℕ). get_or t k count_kind.none ≡ get_or u k count_kind.none) q.4 (e ∙ sym (each q.0 q.1 q.2 q.3)));
         before = below_right;
       }
+
+-- the two compared entry by entry
+module _ (F : Rules) (N : ℕ) (t u : List Count) (each : Each count_kind F N u) (m : ℕ) (size : m ≡ entries (rows F) N) (in_t : m ≤ length t) (in_u : m ≤ length u) where
+  abbrev pairs : List (Count × Count)
+  pairs = zip (take m t) (take m u)
+
+  pair_at : (k : ℕ) → k < m → get_or pairs k (count_kind.none, count_kind.none) ≡ (get_or t k count_kind.none, get_or u k count_kind.none)
+  pair_at k h =
+      get_or-zip (take m t) (take m u) k (count_kind.none, count_kind.none) (omega (arith, length-take-le m t in_t)) (omega (arith, length-take-le m u in_u))
+      ∙ ap₂ (λ x y. (x, y)) (get_or-take m t k count_kind.none h) (get_or-take m u k count_kind.none h)
+
+  length-pairs : length pairs ≡ m
+  length-pairs = omega (arith, length-zip (take m t) (take m u), length-take-le m t in_t, length-take-le m u in_u)
+
+  abbrev differ : Count × Count → Bool
+  differ p = not (p.0.value == p.1.value)
+
+  alike : (k : ℕ) → k < m → differ (get_or pairs k (count_kind.none, count_kind.none)) ≡ false → get_or t k count_kind.none ≡ get_or u k count_kind.none
+  alike k h e = same_count (eqb-true _ _ (not-false _ (sym (ap differ (pair_at k h)) ∙ e)))
+
+  unlike : (k : ℕ) → k < m → differ (get_or pairs k (count_kind.none, count_kind.none)) ≡ true → get_or t k count_kind.none ≡ get_or u k count_kind.none → ⊥
+  unlike k h e same = eqb-false _ _ (not-true _ (sym (ap differ (pair_at k h)) ∙ e)) (ap (λ x. x.value) same)
+
+  pub compared : (r : Option ℕ) → r ≡ first_unequal (take m t) (take m u) → MatchOption r (Totals count_kind F N t) (FirstWrong F N t)
+  compared None e =
+      let none : length pairs ≤ position_or_len differ pairs = grind (arith, common_steps) in
+      each_totals count_kind F count_laws N t
+      (all_right F N t u each m (λ k h. alike k h (fails_before_first differ pairs k (count_kind.none, count_kind.none) (omega (arith, length-pairs)))) (omega arith))
+  compared (Some i) e =
+      let q = position-Some differ pairs i (count_kind.none, count_kind.none) (sym e) in
+      let inside : i < m = omega (arith, q.0, length-pairs) in
+      first_wrong F N t u each i (λ k h. alike k (omega arith) (q.2 k h)) (omega arith) (unlike i inside q.1)

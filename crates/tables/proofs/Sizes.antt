@@ -1,5 +1,5 @@
 -- Names by rank, and one size after another. Assumes nothing.
-use Rattle.std.proofs.Common.{◌≡◌, ℕ, ◌+◌, ◌<◌, ◌≤◌, Bool, true, false, ◌⊎◌, List, length, set, sym, ap, ◌∙◌, subst, inl, inr, ⊎_elim, true≢false, arith}
+use Rattle.std.proofs.Common.{◌≡◌, ℕ, ◌+◌, ◌<◌, ◌≤◌, Bool, false, ◌⊎◌, List, length, set, sym, ◌∙◌, subst, inl, inr, ⊎_elim, arith}
 use Rattle.std.proofs.lemmas.Bool.{cases_eq}
 use Rattle.theory.specs.Kinds.{Kind, Laws}
 use Rattle.theory.specs.Orders.{upward}
@@ -11,7 +11,7 @@ use Rattle.theory.proofs.Orders.{upward-splits}
 use Rattle.theory.proofs.Items.{tail_known}
 use Rattle.theory.proofs.Totals.{total-any_order, tail_total_value}
 use Rattle.theory.proofs.Tables.{tail_same, filled_by_rank, total_bare}
-use Rattle.tables.specs.Tables.{entries, entry_of, Beyond, Totals}
+use Rattle.tables.specs.Tables.{entries, entry_of, Totals}
 use Rattle.tables.specs.Fillings.{Changed, Right, Wrote, Ready}
 use Rattle.tables.proofs.Views.{entry_same, entry_inside, put_changed, changed_none, changed_wider, changed_then}
 use Rattle.tables.proofs.Rows.{wrote_names, wrote_lower}
@@ -42,8 +42,8 @@ module _ {K : Type 0} (o : Kind K) (laws : Laws o) (F : Rules) (nul : ℕ → Bo
     ready_fewer E fewer = record { bare = ready.bare; names = ready.names; items = ready.items; here = λ z h e. ready.here z h (fewer z h e) }
 
     -- one name more
-    pub ready_more : (R y : ℕ) (E : ℕ → Type 0) (u : List K) → Changed o R N n (λ r. (r ≡ y) ⊎ (length F ≤ r)) t u → entry_of o N u y n ≡ total o upward F y n → ((z : ℕ) → z < length F → E z → D z ⊎ (z ≡ y)) → Ready o F nul N n E u
-    ready_more R y E u c new split = record {
+    pub ready_more : (y : ℕ) (E : ℕ → Type 0) (u : List K) → Changed o N n (λ r. (r ≡ y) ⊎ (length F ≤ r)) t u → entry_of o N u y n ≡ total o upward F y n → ((z : ℕ) → z < length F → E z → D z ⊎ (z ≡ y)) → Ready o F nul N n E u
+    ready_more y E u c new split = record {
       bare = λ z h e. ⊎_elim (λ (q : z ≡ y). same_bare z q h e (cases_eq n 0)) (λ (q : z ≡ y → ⊥). other z 0 h (omega arith) q ∙ ready.bare z h e) (cases_eq z y);
       names = λ z k h l. lower z k l ∙ ready.names z k h l;
       items = λ j k h l. lower (item_row F j) k l ∙ ready.items j k h l;
@@ -51,10 +51,10 @@ module _ {K : Type 0} (o : Kind K) (laws : Laws o) (F : Rules) (nul : ℕ → Bo
     }
       where
         lower : (r k : ℕ) → k < n → entry_of o N u r k ≡ entry_of o N t r k
-        lower r k l = c.others r k (omega arith) (λ e x. omega arith)
+        lower r k l = c r k (omega arith) (λ e x. omega arith)
 
         other : (z k : ℕ) → z < length F → k ≤ N → (z ≡ y → ⊥) → entry_of o N u z k ≡ entry_of o N t z k
-        other z k h l q = c.others z k l (λ e x. ⊎_elim q (λ (b : length F ≤ z). omega arith) x)
+        other z k h l q = c z k l (λ e x. ⊎_elim q (λ (b : length F ≤ z). omega arith) x)
 
         at_new : (z : ℕ) → z ≡ y → entry_of o N u z n ≡ total o upward F z n
         at_new z q = subst (λ (x : ℕ). entry_of o N u x n ≡ total o upward F x n) (sym q) new
@@ -64,7 +64,7 @@ module _ {K : Type 0} (o : Kind K) (laws : Laws o) (F : Rules) (nul : ℕ → Bo
 
         same_bare : (z : ℕ) → z ≡ y → z < length F → nul z ≡ false → (n ≡ 0) ⊎ (n ≡ 0 → ⊥) → entry_of o N u z 0 ≡ o.none
         same_bare z q h e (inl p) = subst (λ (k : ℕ). entry_of o N u z k ≡ total o upward F z k) p (at_new z q) ∙ total_bare o laws upward upward-splits F nul adopted z e
-        same_bare z q h e (inr p) = c.others z 0 (omega arith) (λ a x. p (sym a)) ∙ ready.bare z h e
+        same_bare z q h e (inr p) = c z 0 (omega arith) (λ a x. p (sym a)) ∙ ready.bare z h e
 
     -- what the alternatives of a name sum up to, where all lower ranks are done
     pub name_is_total : (ranks : Ranks F nul) (y : ℕ) → ((z : ℕ) → z < length F → ranks.rank z < ranks.rank y → D z) → alternatives_value o F (entry_of o N t) y n ≡ total o upward F y n
@@ -93,22 +93,22 @@ module _ {K : Type 0} (o : Kind K) (laws : Laws o) (F : Rules) (nul : ℕ → Bo
   -- a name is done: its items were written, and then its sum
   pub record NameDone (n y : ℕ) (t u : List K) : Type 0 where
     pub value : entry_of o N u y n ≡ total o upward F y n
-    pub only : Changed o (rows F) N n (λ r. (r ≡ y) ⊎ (length F ≤ r)) t u
+    pub only : Changed o N n (λ r. (r ≡ y) ⊎ (length F ≤ r)) t u
 
   pub name_done : (n : ℕ) → n ≤ N → (D P : ℕ → Type 0) (t u v : List K) (y : ℕ) (x : K) → Ready o F nul N n D t → Wrote o F N n P t u → y < length F → (ranks : Ranks F nul) → ((z : ℕ) → z < length F → ranks.rank z < ranks.rank y → D z) →
       x ≡ alternatives_value o F (entry_of o N u) y n → entries (rows F) N ≤ length u → v ≡ set u (entry_at N y n) x → NameDone n y t v
   name_done n low D P t u v y x ready w h ranks done sum room is = subst (NameDone n y t) (sym is) (record {
     value = entry_same o N u y n x (entry_inside o N (rows F) y n (length u) (omega arith) low room) ∙ sum ∙ name_is_total n low D u (ready_wrote n low D t ready P u w) ranks y done;
-    only = changed_then o N (rows F) n (λ r. (r ≡ y) ⊎ (length F ≤ r)) t u (set u (entry_at N y n) x)
-        (changed_wider o N (rows F) n (λ r. length F ≤ r) (λ r. (r ≡ y) ⊎ (length F ≤ r)) t u (λ q b. inr b) w.changed)
-        (changed_wider o N (rows F) n (λ r. r ≡ y) (λ r. (r ≡ y) ⊎ (length F ≤ r)) u (set u (entry_at N y n) x) (λ q b. inl b) (put_changed o N (rows F) n u y x (omega arith) low));
+    only = changed_then o N n (λ r. (r ≡ y) ⊎ (length F ≤ r)) t u (set u (entry_at N y n) x)
+        (changed_wider o N n (λ r. length F ≤ r) (λ r. (r ≡ y) ⊎ (length F ≤ r)) t u (λ q b. inr b) w.changed)
+        (changed_wider o N n (λ r. r ≡ y) (λ r. (r ≡ y) ⊎ (length F ≤ r)) u (set u (entry_at N y n) x) (λ q b. inl b) (put_changed o N n u y x low));
   })
 
   -- a name that cannot be empty has its none at 0
   pub name_bare : (n y : ℕ) (D : ℕ → Type 0) (t : List K) → Ready o F nul N n D t → y < length F → n ≡ 0 → nul y ≡ false → NameDone n y t t
   name_bare n y D t ready h e bare = record {
     value = subst (λ (k : ℕ). entry_of o N t y k ≡ total o upward F y k) (sym e) (ready.bare y h bare ∙ sym (total_bare o laws upward upward-splits F nul adopted y bare));
-    only = changed_none o N (rows F) n (λ r. (r ≡ y) ⊎ (length F ≤ r)) t;
+    only = changed_none o N n (λ r. (r ≡ y) ⊎ (length F ≤ r)) t;
   }
 
   -- all sizes are done
@@ -124,20 +124,5 @@ module _ {K : Type 0} (o : Kind K) (laws : Laws o) (F : Rules) (nul : ℕ → Bo
 
 -- the none at 0, one name after another
 
-abbrev pub Bare : {K : Type 0} → Kind K → ℕ → ℕ → (ℕ → Bool) → List K → List K → ℕ → Type 0
-Bare o N R nul t u y = ((z : ℕ) → z < y → nul z ≡ false → entry_of o N u z 0 ≡ o.none) × Beyond R N t u
-
-module _ {K : Type 0} (o : Kind K) (N R : ℕ) (nul : ℕ → Bool) (t u : List K) (y : ℕ) (before : Bare o N R nul t u y) where
-  pub bare_skip : nul y ≡ true → Bare o N R nul t u (y + 1)
-  bare_skip skip =
-      (λ z h e. ⊎_elim (λ (q : z ≡ y). absurd (true≢false (sym (ap nul q ∙ skip) ∙ e))) (λ (q : z ≡ y → ⊥). before.0 z (omega arith) e) (cases_eq z y), before.1)
-
-  pub bare_put : (v : K) → y < R → entries R N ≤ length u → v ≡ o.none → Bare o N R nul t (set u (entry_at N y 0) v) (y + 1)
-  bare_put v h room e =
-      let c = put_changed o N R 0 u y v h (omega arith) in (
-        λ z l b. ⊎_elim
-            (λ (q : z ≡ y). subst (λ (x : ℕ). entry_of o N (set u (entry_at N y 0) v) x 0 ≡ o.none) (sym q) (entry_same o N u y 0 v (entry_inside o N R y 0 (length u) h (omega arith) room) ∙ e))
-            (λ (q : z ≡ y → ⊥). c.others z 0 (omega arith) (λ p x. q x) ∙ before.0 z (omega arith) b)
-            (cases_eq z y),
-        λ i d b. c.beyond i d b ∙ before.1 i d b,
-      )
+abbrev pub Bare : {K : Type 0} → Kind K → ℕ → (ℕ → Bool) → List K → ℕ → Type 0
+Bare o N nul t y = (z : ℕ) → z < y → nul z ≡ false → entry_of o N t z 0 ≡ o.none

@@ -1,5 +1,5 @@
 -- What stored rules are as names, alternatives and numbered items. Assumes nothing.
-use Rattle.std.proofs.Common.{◌≡◌, ℕ, zero, suc, ◌+◌, ◌<◌, ◌≤◌, List, [], ◌∷◌, map, length, get_or, take, drop, Some, None, Option, sym, refl, ap, ◌∙◌, subst, ap₂, le_of_suc-le-suc, not-suc-le-zero, arith, length-drop, length-take-le, get_or-drop, get_or-take, Bor}
+use Rattle.std.proofs.Common.{◌≡◌, ℕ, zero, suc, ◌+◌, ◌<◌, ◌≤◌, List, [], ◌∷◌, map, length, get_or, take, drop, sym, ap, ◌∙◌, subst, ap₂, le_of_suc-le-suc, not-suc-le-zero, arith, length-drop, length-take-le, get_or-drop, get_or-take}
 use Rattle.std.proofs.lemmas.List.{length-map, get_or-map}
 use Rattle.theory.specs.Families.{Item as Symbol, alternatives, alternative, Known, Defined, item_count, tail_at, first_item, ItemAt}
 use Rattle.theory.specs.Nullable.{Ranks}
@@ -15,9 +15,8 @@ use Rattle.files.specs.declared.item.Item.TheVariants.{Vacant, Use, Name, Litera
 use Rattle.files.specs.declared.item.Label.{Label}
 use Rattle.files.specs.declared.item.Rule.{Rule}
 use Rattle.files.specs.declared.item.Alternative.{Alternative}
-use Rattle.tables.specs.Tables.{rules_of, rows_of, rules_open, rows_open, entries}
-use Rattle.tables.specs.Fillings.{Prepared, Below, Stands, Of, Under}
-use Rattle.tables.specs.declared.shape.Shape.{Shape}
+use Rattle.tables.specs.Tables.{rules_of, rows_of}
+use Rattle.tables.specs.Fillings.{Below, Stands, Of, Under}
 use Rattle.tables.proofs.Keeps.{Fitting, keeps}
 
 pub length-model : (l : Lists) → length (model l) ≡ length l.rules
@@ -26,21 +25,9 @@ length-model l = length-map l.rules (rule_model l)
 pub rows-model : (f : Family) → rows_of f ≡ rows (rules_of f)
 rows-model f = ap₂ ◌+◌ (sym (length-model (lists_of f.grammar))) (sym (keeps f).fitting.counted)
 
-pub rows-opened : (o : Option (Bor Family)) → rows_open o ≡ rows (rules_open o)
-rows-opened None = refl
-rows-opened (Some f) = rows-model f.now
-
 -- the family's ranks
 abbrev pub ranks_of : (f : Family) → Ranks (rules_of f) (marked f.nullable)
 ranks_of f = record { rank = λ y. get_or f.ranks y 0; low = (keeps f).ranked.low; falls = (keeps f).ranked.falls }
-
--- as many entries in another table
-pub prepared_again : (f : Family) (s : Shape) (m n : ℕ) → Prepared f s m → n ≡ m → Prepared f s n
-prepared_again f s m n p e = record { rows_all = p.rows_all; room = omega (arith, p.room) }
-
--- how many entries there are, by the family
-pub prepared_room : (f : Family) (s : Shape) (n : ℕ) → Prepared f s n → entries (rows (rules_of f)) s.top ≤ n
-prepared_room f s n p = subst (λ (r : ℕ). entries r s.top ≤ n) p.rows_all p.room
 
 pub length-alternative : (ls : List Label) (a : Alternative) → a.count ≤ length a.items → length (alternative_model ls a) ≡ a.count
 length-alternative ls a h = length-map (take a.count a.items) (item_model ls) ∙ length-take-le a.count a.items h
@@ -78,6 +65,10 @@ item_below l a s p m h w =
 -- the item j is of one of the first n alternatives of the rule y
 abbrev pub Upto : Lists → ℕ → ℕ → ℕ → Type 0
 Upto l y n j = (a : ℕ) × (a < n) × Of (alternative_at l.alternatives ((rule_at l.rules y).first + a)) j
+
+-- it is of one of the rules below y
+abbrev pub Before : Lists → ℕ → ℕ → Type 0
+Before l y j = (z : ℕ) × (z < y) × Under l z j
 
 -- x is the alternative a of the rule y
 pub record Found (l : Lists) (y a : ℕ) (x : Alternative) : Type 0 where

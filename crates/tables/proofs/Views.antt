@@ -1,5 +1,5 @@
 -- What a write to one entry of a table leaves. Assumes nothing.
-use Rattle.std.proofs.Common.{◌≡◌, ℕ, ◌<◌, ◌≤◌, List, length, set, refl, ◌∙◌, subst, arith, get_or-set_other, get_or-set_same}
+use Rattle.std.proofs.Common.{◌≡◌, ℕ, ◌<◌, ◌≤◌, List, length, set, refl, ◌∙◌, arith, get_or-set_other, get_or-set_same}
 use Rattle.theory.specs.Kinds.{Kind}
 use Rattle.theory.specs.Tables.{entry_at}
 use Rattle.theory.proofs.Tables.{entries_placed}
@@ -18,24 +18,15 @@ module _ {K : Type 0} (o : Kind K) (N : ℕ) where
   pub entry_inside : (R r n size : ℕ) → r < R → n ≤ N → entries R N ≤ size → entry_at N r n < size
   entry_inside R r n size h w room = omega (arith, (entries_placed N R).within r n h w)
 
-  module _ (R n : ℕ) where
-    pub put_changed : (t : List K) (r : ℕ) (v : K) → r < R → n ≤ N → Changed o R N n (λ q. q ≡ r) t (set t (entry_at N r n) v)
-    put_changed t r v h w = record {
-      others = λ q k l apart. entry_other t r n q k v w l apart;
-      beyond = λ i d b. get_or-set_other t (entry_at N r n) i v d (λ e. omega (arith, (entries_placed N R).within r n h w));
-    }
+  module _ (n : ℕ) where
+    pub put_changed : (t : List K) (r : ℕ) (v : K) → n ≤ N → Changed o N n (λ q. q ≡ r) t (set t (entry_at N r n) v)
+    put_changed t r v w q k l apart = entry_other t r n q k v w l apart
 
-    pub changed_none : (W : ℕ → Type 0) (t : List K) → Changed o R N n W t t
-    changed_none W t = record { others = λ q k l apart. refl; beyond = λ i d b. refl }
+    pub changed_none : (W : ℕ → Type 0) (t : List K) → Changed o N n W t t
+    changed_none W t q k l apart = refl
 
-    pub changed_wider : (V W : ℕ → Type 0) (t u : List K) → ((q : ℕ) → V q → W q) → Changed o R N n V t u → Changed o R N n W t u
-    changed_wider V W t u more c = record { others = λ q k l apart. c.others q k l (λ e x. apart e (more q x)); beyond = c.beyond }
+    pub changed_wider : (V W : ℕ → Type 0) (t u : List K) → ((q : ℕ) → V q → W q) → Changed o N n V t u → Changed o N n W t u
+    changed_wider V W t u more c q k l apart = c q k l (λ e x. apart e (more q x))
 
-    pub changed_then : (W : ℕ → Type 0) (t u v : List K) → Changed o R N n W t u → Changed o R N n W u v → Changed o R N n W t v
-    changed_then W t u v c d = record {
-      others = λ q k l apart. d.others q k l apart ∙ c.others q k l apart;
-      beyond = λ i x b. d.beyond i x b ∙ c.beyond i x b;
-    }
-
-  pub changed_rows : (R Q n : ℕ) (W : ℕ → Type 0) (t u : List K) → R ≡ Q → Changed o R N n W t u → Changed o Q N n W t u
-  changed_rows R Q n W t u e c = subst (λ (r : ℕ). Changed o r N n W t u) e c
+    pub changed_then : (W : ℕ → Type 0) (t u v : List K) → Changed o N n W t u → Changed o N n W u v → Changed o N n W t v
+    changed_then W t u v c d q k l apart = d q k l apart ∙ c q k l apart

@@ -76,7 +76,3 @@ rules_open (Some f) = rules_of f.now
 abbrev pub names_open : Option (Bor Family) → ℕ
 names_open None = 0
 names_open (Some f) = length (vec_items f.now.grammar.rules)
-
-abbrev pub rows_open : Option (Bor Family) → ℕ
-rows_open None = 0
-rows_open (Some f) = rows_of f.now

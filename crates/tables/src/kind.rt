@@ -13,11 +13,11 @@ use crate::count::Count;
 pub trait WeightKind: Copy {
     const LETTER: u8;
 
+    ghost LETTER: { ℕ };
+
     ghost kind: { Kind Self };
 
     ghost shown: { Self → Option ℕ };
-
-    ghost mark: { ℕ };
 
     fn nothing() -> Self
         ensures { result ≡ kind.none };
@@ -37,10 +37,6 @@ pub trait WeightKind: Copy {
     fn show(self) -> Option<u64>
         ensures { result ≡ shown self };
 
-    // The letter, as clauses can speak of it.
-    fn printed_letter() -> u8
-        ensures { result ≡ mark };
-
     ghost laws: { Laws kind };
 }
 
@@ -48,31 +44,28 @@ pub trait WeightKind: Copy {
 impl WeightKind for Count {
     const LETTER: u8 = b'c';
 
+    ghost LETTER = { 99 };
+
     ghost kind = { count_kind };
 
     ghost shown = { count_shown };
 
-    ghost mark = { 99 };
-
     ghost laws = { count_laws };
 
     fn nothing() -> Count
-        ensures same { result ≡ count_kind.none }
-        ensures means { result.value ≡ 0 }
+        ensures { result.value ≡ 0 }
     {
         Count { value: 0 }
     }
 
     fn one() -> Count
-        ensures same { result ≡ count_kind.unit }
-        ensures means { result.value ≡ 1 }
+        ensures { result.value ≡ 1 }
     {
         Count { value: 1 }
     }
 
     fn plus(self, other: Count) -> Count
-        ensures same { result ≡ count_kind.sum self other }
-        ensures means { result.value ≡ min 18446744073709551615 (self.value + other.value) }
+        ensures { result.value ≡ min 18446744073709551615 (self.value + other.value) }
     {
         Count {
             value: self.value.saturating_add(other.value),
@@ -80,8 +73,7 @@ impl WeightKind for Count {
     }
 
     fn times(self, other: Count) -> Count
-        ensures same { result ≡ count_kind.product self other }
-        ensures means { result.value ≡ min 18446744073709551615 (self.value * other.value) }
+        ensures { result.value ≡ min 18446744073709551615 (self.value * other.value) }
     {
         Count {
             value: self.value.saturating_mul(other.value),
@@ -89,8 +81,7 @@ impl WeightKind for Count {
     }
 
     fn weight(cost: u32) -> Count
-        ensures same { result ≡ count_kind.weigh cost }
-        ensures means { result.value ≡ 1 }
+        ensures { result.value ≡ 1 }
     {
         Self::one()
     }
@@ -98,50 +89,40 @@ impl WeightKind for Count {
     fn show(self) -> Option<u64> {
         Some(self.value)
     }
-
-    fn printed_letter() -> u8 {
-        Self::LETTER
-    }
 }
 
 // The cheapest: each literal weighs its cost, the sum is the smaller, the product adds.
 impl WeightKind for Cheapest {
     const LETTER: u8 = b'm';
 
+    ghost LETTER = { 109 };
+
     ghost kind = { cheapest_kind };
 
     ghost shown = { cheapest_shown };
 
-    ghost mark = { 109 };
-
     ghost laws = { cheapest_laws };
 
     fn nothing() -> Cheapest
-        ensures same { result ≡ cheapest_kind.none }
-        ensures means { result.cost ≡ 4294967295 }
+        ensures { result.cost ≡ 4294967295 }
     {
-        Cheapest {
-            cost: 4_294_967_295,
-        }
+        Cheapest { cost: u32::MAX }
     }
 
     fn one() -> Cheapest
-        ensures same { result ≡ cheapest_kind.unit }
-        ensures means { result.cost ≡ 0 }
+        ensures { result.cost ≡ 0 }
     {
         Cheapest { cost: 0 }
     }
 
     fn plus(self, other: Cheapest) -> Cheapest
-        ensures same { result ≡ cheapest_kind.sum self other }
-        ensures means { result.cost ≡ min self.cost other.cost }
+        ensures { result.cost ≡ min self.cost other.cost }
     {
-        if other.cost < self.cost { other } else { self }
+        self.min(other)
     }
 
     fn times(self, other: Cheapest) -> Cheapest
-        ensures same { result ≡ cheapest_kind.product self other }
-        ensures means { result.cost ≡ min 4294967295 (self.cost + other.cost) }
+        ensures { result.cost ≡ min 4294967295 (self.cost + other.cost) }
     {
         Cheapest {
             cost: self.cost.saturating_add(other.cost),
@@ -149,21 +130,16 @@ impl WeightKind for Cheapest {
     }
 
     fn weight(cost: u32) -> Cheapest
-        ensures same { result ≡ cheapest_kind.weigh cost }
-        ensures means { result.cost ≡ cost }
+        ensures { result.cost ≡ cost }
     {
         Cheapest { cost }
     }
 
     fn show(self) -> Option<u64> {
-        if self.cost == 4_294_967_295 {
+        if self.cost == u32::MAX {
             None
         } else {
             Some(u64::from(self.cost))
         }
-    }
-
-    fn printed_letter() -> u8 {
-        Self::LETTER
     }
 }

@@ -1,14 +1,14 @@
 // Opening a table, and what an open table is asked for.
-ghost use Rattle.std.specs.Prelude.{◌≡◌, ℕ, ◌+◌, ◌-◌, ◌*◌, ◌<◌, ◌≤◌, [], length, IfErr, Some, None, ◌≢◌, slice_index_or};
+ghost use Rattle.std.specs.Prelude.{◌≡◌, ℕ, ◌+◌, ◌-◌, ◌*◌, ◌<◌, ◌≤◌, [], length, IfErr, MatchOption, Some, None};
 ghost use Rattle.files.specs.declared.fault.Fault.TheVariants.{OutOfMemory};
 ghost use Rattle.theory.specs.Tables.{rows};
-ghost use Rattle.tables.specs.Tables.{rules_of, rules_open, rows_open, names_open, entries, total_at, Totals};
+ghost use Rattle.tables.specs.Tables.{rules_of, rules_open, names_open, entries, total_at, Totals};
 ghost use Rattle.tables.specs.Counts.{count_kind};
-ghost use Rattle.tables.specs.Fillings.{Prepared};
-ghost use Rattle.tables.specs.Openings.{FirstWrong, Opened, count_at};
+ghost use Rattle.tables.specs.Openings.{first_unequal, FirstWrong, Opened, family_open, top_open, count_in, count_at};
 
+use crate::checked::Checked;
 use crate::count::Count;
-use crate::filling::{fill_all, shape_for};
+use crate::filling::fill_all;
 use crate::open_table::OpenTable;
 use crate::scratch::Scratch;
 use crate::shape::Shape;
@@ -17,6 +17,7 @@ use files::fault::Fault;
 use std::alloc::Global;
 
 impl Scratch {
+    // Room for the totals, all reserved here.
     pub fn new(heap: Global) -> Result<Scratch, Fault>
         ensures { IfErr result (λ e. e ≡ OutOfMemory) }
     {
@@ -25,44 +26,51 @@ impl Scratch {
         };
         Ok(Scratch { totals })
     }
+
+    // The first index at which an entry is not its total.
+    fn first_wrong(&mut self, shape: Shape, family: &Family, table: &[Count]) -> Option<usize>
+        requires rows { shape.rows ≡ rows (rules_of family.now) }
+        requires room { entries shape.rows shape.top ≤ length table.now }
+        ensures { MatchOption result (Totals count_kind (rules_of family.now) shape.top table.now) (FirstWrong (rules_of family.now) shape.top table.now) }
+    {
+        fill_all(shape, family, &mut self.totals);
+        let size = shape.entries();
+        let totals = &self.totals[..size];
+        first_difference(&table[..size], totals)
+    }
 }
 
-// The first index below `size` at which the two differ, or `size`.
-fn first_difference(table: &[Count], totals: &[Count], size: usize) -> usize
-    requires table { size ≤ length table.now }
-    requires totals { size ≤ length totals.now }
-    ensures within { result ≤ size }
-    ensures before { (k : ℕ) → k < result → slice_index_or table.now k count_kind.none ≡ slice_index_or totals.now k count_kind.none }
-    ensures here { result < size → slice_index_or table.now result count_kind.none ≢ slice_index_or totals.now result count_kind.none }
+// The first index at which the two differ.
+fn first_difference(table: &[Count], totals: &[Count]) -> Option<usize>
+    ensures { result ≡ first_unequal table.now totals.now }
 {
-    for i in 0..size {
-        if table[i].value != totals[i].value {
-            return i;
+    table
+        .iter()
+        .zip(totals)
+        .position(|(entry, total)| entry != total)
+}
+
+impl Checked<'_, '_> {
+    // The entry of a row at a size; 0 where there is none.
+    fn count(&self, row: usize, size: usize) -> u64
+        ensures value { result ≡ count_in (Some self.now) row size }
+        ensures total { row < rows (rules_of self.now.family.now) → size ≤ self.now.shape.top → result ≡ (total_at count_kind (rules_of self.now.family.now) row size).value }
+    {
+        if row < self.shape.rows && size <= self.shape.top {
+            self.table[self.shape.place(row, size)].value
+        } else {
+            0
         }
     }
-    size
-}
-
-// The first index at which an entry is not its total, or how many entries there are; `totals` is written.
-fn first_wrong(shape: Shape, family: &Family, table: &[Count], totals: &mut [Count]) -> usize
-    requires room { entries shape.rows shape.top ≤ length table.now }
-    requires prepared { Prepared family.now shape (length totals.old) }
-    ensures wrong { result < entries shape.rows shape.top → FirstWrong (rules_of family.now) shape.top table.now result }
-    ensures right { entries shape.rows shape.top ≤ result → Totals count_kind (rules_of family.now) shape.top table.now }
-{
-    fill_all(shape, family, totals);
-    first_difference(table, totals, shape.rows * (shape.top + 1))
 }
 
 impl<'f, 't> OpenTable<'f, 't> {
     // A place for a table; no family is open in it.
     pub fn new(scratch: Scratch) -> OpenTable<'f, 't>
-        ensures { result.family ≡ None }
+        ensures { result.checked ≡ None }
     {
         OpenTable {
-            family: None,
-            table: &[],
-            top: 0,
+            checked: None,
             scratch,
         }
     }
@@ -71,61 +79,44 @@ impl<'f, 't> OpenTable<'f, 't> {
     pub fn open(&mut self, family: &'f Family, table: &'t [Count], top: usize) -> Result<(), Fault>
         ensures { Opened result self.old self.new family.entry table.entry top }
     {
-        let shape = shape_for(family, table.len(), top)?;
-        let index = first_wrong(shape, family, table, self.scratch.totals.as_mut_slice());
-        if index < shape.rows * (top + 1) {
+        let shape = Shape::new(family, table.len(), top)?;
+        if let Some(index) = self.scratch.first_wrong(shape, family, table) {
             return Err(Fault::WrongEntry { index });
         }
-        self.family = Some(family);
-        self.table = table;
-        self.top = top;
+        self.checked = Some(Checked {
+            family,
+            table,
+            shape,
+        });
         Ok(())
     }
 
     // The family that is open.
     pub fn family(&self) -> Option<&'f Family>
-        ensures { result ≡ self.now.family }
+        ensures { result ≡ family_open self.now }
     {
-        self.family
+        self.checked.map(|checked| checked.family)
     }
 
     // How many names there are.
     pub fn names(&self) -> usize
-        ensures { result ≡ names_open self.now.family }
+        ensures { result ≡ names_open (family_open self.now) }
     {
-        match self.family {
-            None => 0,
-            Some(family) => family.names(),
-        }
-    }
-
-    // How many rows there are.
-    fn rows(&self) -> usize
-        ensures { result ≡ rows_open self.now.family }
-    {
-        match self.family {
-            None => 0,
-            Some(family) => family.names() + family.items(),
-        }
+        self.checked.map_or(0, |checked| checked.family.names())
     }
 
     // The largest size.
     pub fn top(&self) -> usize
-        ensures { result ≡ self.now.top }
+        ensures { result ≡ top_open self.now }
     {
-        self.top
+        self.checked.map_or(0, |checked| checked.shape.top)
     }
 
     // The entry of a row at a size; 0 where there is none.
     pub fn count(&self, row: usize, size: usize) -> u64
         ensures value { result ≡ count_at self.now row size }
-        ensures total { row < rows (rules_open self.now.family) → size ≤ self.now.top → result ≡ (total_at count_kind (rules_open self.now.family) row size).value }
+        ensures total { row < rows (rules_open (family_open self.now)) → size ≤ top_open self.now → result ≡ (total_at count_kind (rules_open (family_open self.now)) row size).value }
     {
-        let rows = self.rows();
-        if row < rows && size <= self.top {
-            self.table[row * (self.top + 1) + size].value
-        } else {
-            0
-        }
+        self.checked.map_or(0, |checked| checked.count(row, size))
     }
 }

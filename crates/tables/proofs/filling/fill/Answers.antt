@@ -1,20 +1,9 @@
-use Rattle.std.proofs.Common.{ℕ, ◌+◌, ◌∙◌, subst, ap₂, arith}
+use Rattle.std.proofs.Common.{ℕ, ◌+◌, subst, ap₂, arith}
 use Rattle.families.specs.Sound.{marked}
 use Rattle.tables.specs.Tables.{rules_of, entries, Totals}
 use Rattle.tables.proofs.Keeps.{keeps}
-use Rattle.tables.proofs.Stored.{rows-model}
 use Rattle.tables.proofs.Sizes.{ready_all}
 use Rattle.tables.proofs.filling.fill.Goals as goal
-
-pub fill_all-requires : goal.fill_all-requires
-fill_all-requires g c =
-    let fits = c.in_ok-shape.ensures in
-    record {
-      prepared = record {
-        rows_all = fits.1 ∙ rows-model c.args.family.now;
-        room = omega (arith, fits.0.long, ap₂ entries fits.1 fits.2);
-      };
-    }
 
 pub returns : goal.returns
 returns g c =

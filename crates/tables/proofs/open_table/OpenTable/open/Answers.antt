@@ -1,37 +1,34 @@
-use Rattle.std.proofs.Common.{ℕ, ◌+◌, ◌*◌, ◌≤◌, refl, ap, ◌∙◌, subst, ap₂, mul-le-mul, arith}
+use Rattle.std.proofs.Common.{ℕ, refl, ◌∙◌, subst}
 use Rattle.std.proofs.lemmas.Result.{err_from_is_err_and}
 use Rattle.tables.specs.Counts.{count_kind}
-use Rattle.tables.specs.Tables.{rules_of, entries, Totals}
+use Rattle.tables.specs.Tables.{rules_of, Totals}
 use Rattle.tables.specs.Openings.{FirstWrong, no_room, wrong}
 use Rattle.tables.proofs.Stored.{rows-model}
 use Rattle.tables.proofs.open_table.OpenTable.open.Goals as goal
 
-pub first_wrong-index-requires : goal.first_wrong-index-requires
-first_wrong-index-requires c =
-    let s = c.in_ok-shape.shape in
-    let fits = c.in_ok-shape.ensures in
-    let most : s.rows * (s.top + 1) ≤ 160 * 41 = mul-le-mul {n₁ = s.rows} {m₁ = s.top + 1} {n₂ = 160} {m₂ = 41} s.few (omega (arith, s.low)) in
-    record {
-      room = omega (arith, fits.0.long, ap₂ entries fits.1 fits.2);
-      prepared = record { rows_all = fits.1 ∙ rows-model c.args.family.now; room = omega (arith, c.as_mut_slice.ensures.len, c.args.self.now.scratch.long) };
-    }
+pub first_wrong-requires-clause-rows : goal.first_wrong-requires-clause-rows
+first_wrong-requires-clause-rows c = c.in_ok-shape.ensures.1 ∙ rows-model c.args.family.now
 
 pub returns-in_err-shape : goal.returns-in_err-shape
 returns-in_err-shape c =
     let p = err_from_is_err_and c.from_residual.result c.from_residual.ensures.1 in
-    rw (p.1, p.2) (record { same_family = refl; same_table = refl; same_top = refl }, no_room _ c.in_err-shape.ensures)
+    rw (p.1, p.2) (refl, no_room _ c.in_err-shape.ensures)
 
-pub returns-then-index-shape : goal.returns-then-index-shape
-returns-then-index-shape c =
+pub returns-in-Some : goal.returns-in-Some
+returns-in-Some c =
     let fits = c.in_ok-shape.ensures in
-    let first = c.first_wrong-index.ensures.wrong (omega (arith, c.if-index-shape.true, ap (entries c.in_ok-shape.shape.rows) fits.2)) in (
-      record { same_family = refl; same_table = refl; same_top = refl },
-      wrong c.first_wrong-index.result fits.0 (subst (λ (n : ℕ). FirstWrong (rules_of c.args.family.now) n c.args.table.now c.first_wrong-index.result) fits.2 first),
-    )
+    (refl, wrong c.in-Some.index fits.0 (subst (λ (n : ℕ). FirstWrong (rules_of c.args.family.now) n c.args.table.now c.in-Some.index) fits.2 c.in-Some.ensures))
 
-pub invariant_of-self-2 : goal.invariant_of-self-2
-invariant_of-self-2 c =
+pub returns : goal.returns
+returns c =
     let f = c.args.family.now in
     let fits = c.in_ok-shape.ensures in
-    let totals = c.first_wrong-index.ensures.right (omega (arith, c.if-index-shape.false, ap (entries c.in_ok-shape.shape.rows) fits.2)) in
-    record { low = fits.0.low; room = fits.0.long; totals = ∣ subst (λ (n : ℕ). Totals count_kind (rules_of f) n c.args.table.now) fits.2 totals ∣₁ }
+    record {
+      checked = _;
+      here = refl;
+      of_family = refl;
+      of_table = refl;
+      of_top = fits.2;
+      room = fits.0;
+      totals = subst (λ (n : ℕ). Totals count_kind (rules_of f) n c.args.table.now) fits.2 c.in_default.ensures;
+    }
