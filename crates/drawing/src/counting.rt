@@ -2,8 +2,8 @@
 ghost use Rattle.std.specs.Prelude.{◌≡◌, ◌+◌, ◌*◌, ◌^◌, ◌<◌, ◌≤◌};
 
 use crate::numbering::Numbering;
-use crate::pending::Tail;
 use files::item::Item;
+use tables::tail::Tail;
 
 // A number within a split falls into a pair: divided by the rest's count, the quotient is the item's number and the
 // remainder the rest's.

@@ -1,5 +1,6 @@
 // How layouts are numbered.
 ghost use Rattle.std.specs.Prelude.{◌≡◌, Some};
+ghost use Rattle.tables.specs.Openings.{family_open};
 
 use families::family::Family;
 use tables::open_table::OpenTable;
@@ -10,5 +11,5 @@ pub(crate) struct Numbering<'n, O> {
     pub(crate) opened: &'n OpenTable<'n, 'n>,
     pub(crate) family: &'n Family,
     pub(crate) order: &'n O,
-    ghost own: { opened.now.family ≡ Some family },
+    ghost own: { family_open opened.now ≡ Some family },
 }

@@ -2,7 +2,7 @@
 ghost use Rattle.std.specs.Prelude.{◌≡◌, ◌+◌, ◌<◌, ◌≤◌, IsSome};
 
 use families::family::Family;
-use files::item::{Alternative, Item};
+use tables::tail::Tail;
 
 // A tail that is still to be visited: the alternative, the place in it where the tail begins, its size and its number.
 #[derive(Clone, Copy)]
@@ -12,13 +12,6 @@ pub struct Pending {
     pub(crate) size: usize,
     pub(crate) number: u64,
     ghost six: { slot ≤ 6 },
-}
-
-// The items of an alternative from `slot` on.
-#[derive(Clone, Copy)]
-pub(crate) struct Tail {
-    alternative: Alternative,
-    slot: usize,
 }
 
 impl Pending {
@@ -63,37 +56,6 @@ impl Pending {
         Tail {
             alternative: family.alternative(self.alternative),
             slot: self.slot,
-        }
-    }
-}
-
-impl Tail {
-    // Whether no item is left.
-    pub(crate) fn is_over(self) -> bool {
-        self.slot >= self.alternative.count
-    }
-
-    // The number of its first item through the whole family.
-    pub(crate) fn item_index(self) -> usize {
-        self.alternative.first.saturating_add(self.slot)
-    }
-
-    // The item that it begins with; none at its end.
-    pub(crate) fn first(self) -> Option<Item>
-        ensures { IsSome result → self.slot < 6 }
-    {
-        if self.is_over() {
-            None
-        } else {
-            self.alternative.items.get(self.slot).copied()
-        }
-    }
-
-    // What follows its first item.
-    pub(crate) fn rest(self) -> Tail {
-        Tail {
-            alternative: self.alternative,
-            slot: self.slot.saturating_add(1),
         }
     }
 }

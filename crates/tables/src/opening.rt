@@ -21,9 +21,7 @@ impl Scratch {
     pub fn new(heap: Global) -> Result<Scratch, Fault>
         ensures { IfErr result (λ e. e ≡ OutOfMemory) }
     {
-        let Ok(totals) = Vec::from_elem(heap, Count { value: 0 }, 6560) else {
-            return Err(Fault::OutOfMemory);
-        };
+        let totals = Vec::from_elem(heap, Count { value: 0 }, 6560)?;
         Ok(Scratch { totals })
     }
 

@@ -13,12 +13,12 @@ on_cycle : Cyclic (lists_read looped_file) 0
 unfolding read_on read_file
 on_cycle = last refl
 
-pub refused_by : (r : Result (Unit {0}) Fault) (f g : Family) → Adopts r f g (lists_read looped_file) → r ≡ Err (EmptyCycle 0 1)
+pub refused_by : (r : Result (Unit {0}) Fault) (f g : Family) → Adopts r f g (lists_read looped_file) → r ≡ Err (EmptyCycle (record { place = 0; length = 1 }))
 unfolding read_on read_file
 refused_by (Ok x) f g h = absurd (h.1 0 on_cycle)
 refused_by (Err e) f g h = ap Err (first h.3.name h.3.is h.3.first)
   where
-    first : (y : ℕ) → e ≡ EmptyCycle (rule_at (lists_read looped_file).rules y).label.place (rule_at (lists_read looped_file).rules y).label.length →
-        ((z : ℕ) → z < y → Cyclic (lists_read looped_file) z → ⊥) → e ≡ EmptyCycle 0 1
+    first : (y : ℕ) → e ≡ EmptyCycle (record { place = (rule_at (lists_read looped_file).rules y).label.place; length = (rule_at (lists_read looped_file).rules y).label.length }) →
+        ((z : ℕ) → z < y → Cyclic (lists_read looped_file) z → ⊥) → e ≡ EmptyCycle (record { place = 0; length = 1 })
     first zero i k = i
     first (suc y) i k = absurd (k 0 (omega arith) on_cycle)

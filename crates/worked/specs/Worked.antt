@@ -103,7 +103,7 @@ pub record WorkedCases : Type 0 where
   -- its label stands at the place 0 and is 1 long
   pub looped_label : (rule_at (lists_read looped_file).rules 0).label ≡ label_of (codes "a") 0
   -- adopting refuses: an empty cycle at the place 0, of length 1
-  pub looped_refused : (r : Result (Unit {0}) Fault) (f g : Family) → Adopts r f g (lists_read looped_file) → r ≡ Err (EmptyCycle 0 1)
+  pub looped_refused : (r : Result (Unit {0}) Fault) (f g : Family) → Adopts r f g (lists_read looped_file) → r ≡ Err (EmptyCycle (record { place = 0; length = 1 }))
   -- the file of letters is read to the family of letters
   pub letters_are_read : rules_read letters_file ≡ letters
   -- b has 4 to the power of 31 layouts at size 31
