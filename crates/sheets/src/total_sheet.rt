@@ -17,13 +17,15 @@ fn write_kind<K: WeightKind, W: Write>(
     asked: &Asked<'_>,
     table: &[K],
 ) -> io::Result<()> {
-    let mut lines = Vec::new(heap);
+    let mut line = Vec::new(heap);
     let name = asked.request.name;
     let row = table.chunks(asked.request.top + 1).nth(asked.name);
     for (size, total) in row.unwrap_or(&[]).iter().enumerate() {
-        push_total_line(&mut lines, heap, K::LETTER, name, size as u64, total.show())?;
+        line.clear();
+        push_total_line(&mut line, heap, K::LETTER, name, size as u64, total.show())?;
+        out.write_all(&line)?;
     }
-    out.write_all(&lines)
+    Ok(())
 }
 
 fn write_totals<W: Write>(out: &mut W, heap: Global, asked: &Asked<'_>) -> Result<(), Stop> {

@@ -53,19 +53,22 @@ impl WeightKind for Count {
     ghost laws = { count_laws };
 
     fn nothing() -> Count
-        ensures { result.value ≡ 0 }
+        ensures same { result ≡ count_kind.none }
+        ensures means { result.value ≡ 0 }
     {
         Count { value: 0 }
     }
 
     fn one() -> Count
-        ensures { result.value ≡ 1 }
+        ensures same { result ≡ count_kind.unit }
+        ensures means { result.value ≡ 1 }
     {
         Count { value: 1 }
     }
 
     fn plus(self, other: Count) -> Count
-        ensures { result.value ≡ min 18446744073709551615 (self.value + other.value) }
+        ensures same { result ≡ count_kind.sum self other }
+        ensures means { result.value ≡ min 18446744073709551615 (self.value + other.value) }
     {
         Count {
             value: self.value.saturating_add(other.value),
@@ -73,7 +76,8 @@ impl WeightKind for Count {
     }
 
     fn times(self, other: Count) -> Count
-        ensures { result.value ≡ min 18446744073709551615 (self.value * other.value) }
+        ensures same { result ≡ count_kind.product self other }
+        ensures means { result.value ≡ min 18446744073709551615 (self.value * other.value) }
     {
         Count {
             value: self.value.saturating_mul(other.value),
@@ -81,7 +85,8 @@ impl WeightKind for Count {
     }
 
     fn weight(cost: u32) -> Count
-        ensures { result.value ≡ 1 }
+        ensures same { result ≡ count_kind.weigh cost }
+        ensures means { result.value ≡ 1 }
     {
         Self::one()
     }
@@ -104,25 +109,29 @@ impl WeightKind for Cheapest {
     ghost laws = { cheapest_laws };
 
     fn nothing() -> Cheapest
-        ensures { result.cost ≡ 4294967295 }
+        ensures same { result ≡ cheapest_kind.none }
+        ensures means { result.cost ≡ 4294967295 }
     {
         Cheapest { cost: u32::MAX }
     }
 
     fn one() -> Cheapest
-        ensures { result.cost ≡ 0 }
+        ensures same { result ≡ cheapest_kind.unit }
+        ensures means { result.cost ≡ 0 }
     {
         Cheapest { cost: 0 }
     }
 
     fn plus(self, other: Cheapest) -> Cheapest
-        ensures { result.cost ≡ min self.cost other.cost }
+        ensures same { result ≡ cheapest_kind.sum self other }
+        ensures means { result.cost ≡ min self.cost other.cost }
     {
         self.min(other)
     }
 
     fn times(self, other: Cheapest) -> Cheapest
-        ensures { result.cost ≡ min 4294967295 (self.cost + other.cost) }
+        ensures same { result ≡ cheapest_kind.product self other }
+        ensures means { result.cost ≡ min 4294967295 (self.cost + other.cost) }
     {
         Cheapest {
             cost: self.cost.saturating_add(other.cost),
@@ -130,7 +139,8 @@ impl WeightKind for Cheapest {
     }
 
     fn weight(cost: u32) -> Cheapest
-        ensures { result.cost ≡ cost }
+        ensures same { result ≡ cheapest_kind.weigh cost }
+        ensures means { result.cost ≡ cost }
     {
         Cheapest { cost }
     }
