@@ -8,10 +8,6 @@ use Rattle.files.specs.Models.{alternative_model, rule_model, model, Formed}
 use Rattle.files.specs.declared.item.Alternative.{Alternative}
 use Rattle.files.specs.declared.item.Rule.{Rule}
 
--- an alternative has at most six items
-abbrev pub FitsSix : Alternative → Type 0
-FitsSix a = (a.count ≤ 6) × (length a.items ≡ 6)
-
 module _ (l : Lists) where
   pub rule_is : (y : ℕ) → alternatives (model l) y ≡ rule_model l (rule_at l.rules y)
   rule_is y = ⊎_elim
@@ -56,18 +52,3 @@ module _ (l : Lists) where
 
         f : ℕ
         f = (rule_at l.rules y).first
-
-  module _ (formed : Formed l) where
-    pub six_at : (y a : ℕ) → a < (rule_at l.rules y).count → FitsSix (alternative_at l.alternatives ((rule_at l.rules y).first + a))
-    six_at y a h = formed.six _ (within formed.inside y a h)
-
-    -- the alternative that was looked up
-    pub stored : (y a s : ℕ) (r : Rule) (x : Alternative) → r ≡ rule_at l.rules y → a < r.count → s ≡ r.first + a → x ≡ alternative_at l.alternatives s →
-        FitsSix x × (a < length (alternatives (model l) y)) × (alternative (model l) y a ≡ alternative_model l.labels x)
-    stored y a s r x e h p q =
-        let k : a < (rule_at l.rules y).count = subst (λ (v : Rule). a < v.count) e h in
-        let w : x ≡ alternative_at l.alternatives ((rule_at l.rules y).first + a) = q ∙ ap (alternative_at l.alternatives) (p ∙ ap (λ v. v.first + a) e) in
-        (subst FitsSix (sym w) (six_at y a k), omega (arith, count_is formed.inside y), alternative_is formed.inside y a k ∙ ap (alternative_model l.labels) (sym w))
-
-    pub low : (y a : ℕ) (r : Rule) → r ≡ rule_at l.rules y → a < r.count → r.first + a < 64
-    low y a r e h = subst (λ (v : Rule). v.first + a < 64) (sym e) (omega (arith, within formed.inside y a (subst (λ (v : Rule). a < v.count) e h), formed.few_alternatives))
