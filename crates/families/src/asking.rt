@@ -1,6 +1,6 @@
 // What a family is asked for.
 ghost use Rattle.std.specs.Prelude.{◌≡◌, ℕ, ◌+◌, ◌<◌, ◌≤◌, true, false, length, Some, None, vec_len, slice_index, slice_index_or};
-ghost use Rattle.files.specs.Grammars.{rule_at, alternative_at, label_at, found_name};
+ghost use Rattle.files.specs.Grammars.{rule_at, alternative_at, rule_alternatives, label_at, found_name};
 ghost use Rattle.families.specs.Finds.{Finds};
 
 use crate::family::Family;
@@ -43,6 +43,13 @@ impl Family {
         ensures { result ≡ alternative_at self.now.grammar.alternatives.items a }
     {
         self.grammar.alternative(a)
+    }
+
+    // The alternatives of the rule, in their order.
+    pub fn alternatives(&self, rule: Rule) -> &[Alternative]
+        ensures { result.now ≡ rule_alternatives self.now.grammar.alternatives.items rule }
+    {
+        self.grammar.alternatives(rule)
     }
 
     // The label of item j; an empty one where there is none.

@@ -38,8 +38,10 @@ fn some_alternative<F: Fn(Alternative) -> bool>(draft: &Draft, y: usize, test: F
     ensures { TellsOfAny draft.now y (F.post test) result }
 {
     let grammar = draft.grammar();
-    let rule = grammar.rule(y);
-    (0..rule.count).any(|a| test(grammar.alternative(rule.first.saturating_add(a))))
+    grammar
+        .alternatives(grammar.rule(y))
+        .iter()
+        .any(|alternative| test(*alternative))
 }
 
 impl<'d> Marks<'d> {

@@ -1,5 +1,5 @@
 -- The rules of a family as they are stored. Assumes nothing.
-use Rattle.std.specs.Prelude.{ℕ, Bool, cond, not, List, [], length, Some, None, vec_items, Option, nat_lt, slice_index_or}
+use Rattle.std.specs.Prelude.{ℕ, Bool, cond, not, List, [], length, take, drop, Some, None, vec_items, Option, nat_lt, slice_index_or}
 use Rattle.std.specs.List.{prefix_len}
 use Rattle.std.specs.Str.{bytes_eq}
 use Rattle.files.specs.Items.{label_of, text_of, no_items}
@@ -31,6 +31,10 @@ rule_at rs y = slice_index_or rs y no_rule
 
 abbrev pub alternative_at : List Alternative → ℕ → Alternative
 alternative_at xs a = slice_index_or xs a (no_items 0)
+
+-- the alternatives of a rule: as many as it has, from its first on
+abbrev pub rule_alternatives : List Alternative → Rule → List Alternative
+rule_alternatives xs r = take r.count (drop r.first xs)
 
 abbrev pub label_at : List Label → ℕ → Label
 label_at ls j = slice_index_or ls j no_label

@@ -1,9 +1,9 @@
 -- What stored rules mean: the family of names, alternatives and items that they are. Assumes nothing.
-use Rattle.std.specs.Prelude.{◌≡◌, ℕ, ◌+◌, ◌<◌, ◌≤◌, List, [], map, length, take, drop}
+use Rattle.std.specs.Prelude.{◌≡◌, ℕ, ◌+◌, ◌<◌, ◌≤◌, List, [], map, length}
 use Rattle.theory.specs.Lists.{Distinct}
 use Rattle.theory.specs.Families.{Item as Symbol, name, literal, Family as Rules, first_item, item_count, Defined}
 use Rattle.files.specs.Items.{text_of, items_of}
-use Rattle.files.specs.Grammars.{Lists, rule_at, alternative_at, label_at}
+use Rattle.files.specs.Grammars.{Lists, rule_at, alternative_at, rule_alternatives, label_at}
 use Rattle.files.specs.declared.item.Item.{Item}
 use Rattle.files.specs.declared.item.Item.TheVariants.{Vacant, Use, Name, Literal}
 use Rattle.files.specs.declared.item.Label.{Label}
@@ -22,7 +22,7 @@ alternative_model ls a = map (item_model ls) (items_of a)
 
 -- the alternatives of a rule stand in a row
 abbrev pub rule_model : Lists → Rule → List (List Symbol)
-rule_model l r = map (alternative_model l.labels) (take r.count (drop r.first l.alternatives))
+rule_model l r = map (alternative_model l.labels) (rule_alternatives l.alternatives r)
 
 abbrev pub model : Lists → Rules
 model l = map (rule_model l) l.rules

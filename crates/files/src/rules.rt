@@ -1,6 +1,6 @@
 // What is made of a grammar and read from it.
 ghost use Rattle.std.specs.Prelude.{◌≡◌, ◌<◌, ◌≤◌, length, vec_len, vec_capacity, IfSome, MatchResult};
-ghost use Rattle.files.specs.Grammars.{lists_of, no_lists, rule_at, alternative_at, label_at, found_name};
+ghost use Rattle.files.specs.Grammars.{lists_of, no_lists, rule_at, alternative_at, rule_alternatives, label_at, found_name};
 ghost use Rattle.files.specs.declared.fault.Fault.TheVariants.{OutOfMemory};
 
 use crate::fault::Fault;
@@ -70,6 +70,15 @@ impl Grammar {
         ensures { result ≡ alternative_at self.now.alternatives.items a }
     {
         self.alternatives.get(a).copied().unwrap_or_default()
+    }
+
+    // The alternatives of the rule, in their order.
+    pub fn alternatives(&self, rule: Rule) -> &[Alternative]
+        ensures { result.now ≡ rule_alternatives self.now.alternatives.items rule }
+    {
+        let all = self.alternatives.as_slice();
+        let from_first = &all[rule.first.min(all.len())..];
+        &from_first[..rule.count.min(from_first.len())]
     }
 
     // The label of item j; an empty one past the last.

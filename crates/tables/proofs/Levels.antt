@@ -1,12 +1,12 @@
 -- One write after another to a table at one size. Assumes nothing.
-use Rattle.std.proofs.Common.{◌≡◌, ℕ, ◌+◌, ◌<◌, ◌≤◌, ◌⊎◌, false, length, set, get_or, refl, sym, ap, ◌∙◌, subst, inl, inr, ⊎_elim, arith}
+use Rattle.std.proofs.Common.{◌≡◌, ℕ, ◌+◌, ◌<◌, ◌≤◌, ◌⊎◌, false, List, [], length, set, get_or, refl, sym, ap, ◌∙◌, subst, inl, inr, ⊎_elim, arith}
 use Rattle.std.proofs.lemmas.Bool.{cases_eq}
 use Rattle.std.specs.Borrow.{Bor}
 use Rattle.theory.specs.Kinds.{Kind, Laws}
 use Rattle.theory.specs.Families.{Defined, item_count, tail_at}
 use Rattle.theory.specs.Totals.{tail_value, alternatives_value}
 use Rattle.theory.specs.Tables.{entry_at, item_row, rows}
-use Rattle.files.specs.Grammars.{rule_at, alternative_at}
+use Rattle.files.specs.Grammars.{rule_at, rule_alternatives}
 use Rattle.files.specs.declared.item.Rule.{Rule}
 use Rattle.files.specs.declared.item.Alternative.{Alternative}
 use Rattle.families.specs.Sound.{marked}
@@ -54,10 +54,15 @@ ReadyAt o D a = Ready o (rules_at a) (marked a.family.now.nullable) a.shape.top 
 abbrev pub NamesDone : ℕ → ℕ → Family → ℕ → Type 0
 NamesDone r y f z = (get_or f.ranks z 0 < r) ⊎ ((get_or f.ranks z 0 ≡ r) × (z < y))
 
--- the alternative i of the rule y
-pub found_at : {K : Type 0} (a : Level K) (y i : ℕ) (r : Rule) (x : Alternative) → y < length (rules_at a) → r ≡ rule_at (lists_at a).rules y → i < r.count → x ≡ alternative_at (lists_at a).alternatives (r.first + i) → Found (lists_at a) y i x
-found_at a y i r x there rule below is =
-    found (lists_at a) (keeps a.family.now).fitting (keeps a.family.now).adopted.defined y (omega (arith, length-model (lists_at a))) i r x rule below is
+-- the element i of a list, as a clause reads it
+abbrev pub element : List Alternative → ℕ → Alternative
+element xs i = get_or xs i (record { items = []; count = 0; first = 0 })
+
+-- the element i of the list of the alternatives of the rule y
+pub found_at : {K : Type 0} (a : Level K) (y i : ℕ) (r : Rule) (xs : List Alternative) → y < length (rules_at a) → r ≡ rule_at (lists_at a).rules y → xs ≡ rule_alternatives (lists_at a).alternatives r → i < length xs →
+    Found (lists_at a) y i (element xs i)
+found_at a y i r xs there rule is below =
+    found (lists_at a) (keeps a.family.now).fitting (keeps a.family.now).adopted.defined y (omega (arith, length-model (lists_at a))) xs i _ (is ∙ ap (rule_alternatives (lists_at a).alternatives) rule) below
 
 -- a filling of the names of the rank r has come to y
 pub record Ranking {K : Type 0} (o : Kind K) (r y : ℕ) (a b : Level K) : Type 0 where

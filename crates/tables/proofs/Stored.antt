@@ -6,8 +6,9 @@ use Rattle.theory.specs.Nullable.{Ranks}
 use Rattle.theory.specs.Tables.{rows}
 use Rattle.theory.proofs.Items.{items_numbered}
 use Rattle.files.specs.Items.{item_at, no_items}
-use Rattle.files.specs.Grammars.{Lists, lists_of, no_rule, rule_at, alternative_at}
+use Rattle.files.specs.Grammars.{Lists, lists_of, rule_at, alternative_at, rule_alternatives}
 use Rattle.files.specs.Models.{item_model, alternative_model, rule_model, model}
+use Rattle.files.proofs.Places.{listed_at, count_is, alternative_is}
 use Rattle.families.specs.Sound.{marked}
 use Rattle.families.specs.declared.family.Family.{Family}
 use Rattle.files.specs.declared.item.Item.{Item}
@@ -79,26 +80,6 @@ pub record Found (l : Lists) (y a : ℕ) (x : Alternative) : Type 0 where
 
 module _ (l : Lists) (formed : Fitting l) (defined : Defined (model l)) where
   module _ (y : ℕ) (there : y < length l.rules) where
-    rule_here : alternatives (model l) y ≡ rule_model l (rule_at l.rules y)
-    rule_here = get_or-map (rule_model l) l.rules y no_rule [] there
-
-    front : length (take (rule_at l.rules y).count (drop (rule_at l.rules y).first l.alternatives)) ≡ (rule_at l.rules y).count
-    front =
-        length-take-le (rule_at l.rules y).count (drop (rule_at l.rules y).first l.alternatives)
-        (omega (arith, length-drop (rule_at l.rules y).first l.alternatives, formed.inside y there))
-
-    pub length-alternatives : length (alternatives (model l) y) ≡ (rule_at l.rules y).count
-    length-alternatives =
-        ap length rule_here
-        ∙ length-map (take (rule_at l.rules y).count (drop (rule_at l.rules y).first l.alternatives)) (alternative_model l.labels)
-        ∙ front
-
-    pub alternative_here : (a : ℕ) → a < (rule_at l.rules y).count → alternative (model l) y a ≡ alternative_model l.labels (alternative_at l.alternatives ((rule_at l.rules y).first + a))
-    alternative_here a h =
-        ap (λ xs. get_or xs a []) rule_here
-        ∙ get_or-map (alternative_model l.labels) (take (rule_at l.rules y).count (drop (rule_at l.rules y).first l.alternatives)) a (no_items 0) [] (omega (arith, front))
-        ∙ ap (alternative_model l.labels) (get_or-take (rule_at l.rules y).count (drop (rule_at l.rules y).first l.alternatives) a (no_items 0) h ∙ get_or-drop (rule_at l.rules y).first l.alternatives a (no_items 0))
-
     module _ (a : ℕ) (h : a < (rule_at l.rules y).count) where
       abbrev alt : Alternative
       alt = alternative_at l.alternatives ((rule_at l.rules y).first + a)
@@ -107,7 +88,7 @@ module _ (l : Lists) (formed : Fitting l) (defined : Defined (model l)) where
       six_here = formed.six ((rule_at l.rules y).first + a) (omega (arith, formed.inside y there))
 
       number_here : (p : ℕ) → p < alt.count → ItemAt (model l) y a p (first_item (model l) y a + p)
-      number_here p w = (items_numbered (model l)).number y a p (omega (arith, ap length (alternative_here a h), length-alternative l.labels alt (omega (arith, six_here.0, six_here.1))))
+      number_here p w = (items_numbered (model l)).number y a p (omega (arith, ap length (alternative_is l formed.inside y a h), length-alternative l.labels alt (omega (arith, six_here.0, six_here.1))))
 
       -- each alternative of a rule stands in the family
       pub stands : Stands l alt
@@ -115,20 +96,20 @@ module _ (l : Lists) (formed : Fitting l) (defined : Defined (model l)) where
         six = six_here.0;
         full = six_here.1;
         inside = λ p w. subst (λ (j : ℕ). j + p < item_count (model l)) (sym (formed.numbered y a there h)) (number_here p w).within;
-        tail = λ p w. ap (λ j. tail_at (model l) (j + p)) (formed.numbered y a there h) ∙ (number_here p w).tail ∙ ap (drop p) (alternative_here a h);
-        known = subst (Known (length (model l))) (alternative_here a h) (defined y a);
+        tail = λ p w. ap (λ j. tail_at (model l) (j + p)) (formed.numbered y a there h) ∙ (number_here p w).tail ∙ ap (drop p) (alternative_is l formed.inside y a h);
+        known = subst (Known (length (model l))) (alternative_is l formed.inside y a h) (defined y a);
       }
 
-    -- the alternative a of the rule, however it was found
-    pub found : (a : ℕ) (r : Rule) (x : Alternative) → r ≡ rule_at l.rules y → a < r.count → x ≡ alternative_at l.alternatives (r.first + a) → Found l y a x
-    found a r x rule h is =
-        let b : a < (rule_at l.rules y).count = omega (arith, ap (λ q. q.count) rule) in
-        let same = is ∙ ap (λ q. alternative_at l.alternatives (q.first + a)) rule in
+    -- the alternative a among those of the rule
+    pub found : (xs : List Alternative) (a : ℕ) (e : Alternative) → xs ≡ rule_alternatives l.alternatives (rule_at l.rules y) → a < length xs → Found l y a (get_or xs a e)
+    found xs a e is h =
+        let at = listed_at l.alternatives (rule_at l.rules y) a e (omega (arith, ap length is)) in
+        let same = ap (λ zs. get_or zs a e) is ∙ at.1 in
         record {
-          below = b;
+          below = at.0;
           same = same;
-          stood = subst (Stands l) (sym same) (stands a b);
-          items = alternative_here a b ∙ ap (alternative_model l.labels) (sym same);
+          stood = subst (Stands l) (sym same) (stands a at.0);
+          items = alternative_is l formed.inside y a at.0 ∙ ap (alternative_model l.labels) (sym same);
         }
 
   -- each item is of some alternative
@@ -138,8 +119,8 @@ module _ (l : Lists) (formed : Fitting l) (defined : Defined (model l)) where
       at : ((y : ℕ) × (a : ℕ) × (p : ℕ) × (y < length (model l)) × (a < length (alternatives (model l) y)) × (p < length (alternative (model l) y a)) × ItemAt (model l) y a p j) → (y : ℕ) × (y < length (model l)) × Under l y j
       at (y, a, p, hy, ha, hp, q) =
           let there : y < length l.rules = omega (arith, length-model l) in
-          let b : a < (rule_at l.rules y).count = omega (arith, length-alternatives y there) in
+          let b : a < (rule_at l.rules y).count = omega (arith, count_is l formed.inside y) in
           let s = stands y there a b in
           let alt = alternative_at l.alternatives ((rule_at l.rules y).first + a) in
-          let len : length (alternative (model l) y a) ≡ alt.count = ap length (alternative_here y there a b) ∙ length-alternative l.labels alt (omega (arith, s.six, s.full)) in
+          let len : length (alternative (model l) y a) ≡ alt.count = ap length (alternative_is l formed.inside y a b) ∙ length-alternative l.labels alt (omega (arith, s.six, s.full)) in
           (y, hy, (a, b, (omega (arith, q.is, formed.numbered y a there b), omega (arith, q.is, formed.numbered y a there b))))

@@ -126,9 +126,8 @@ impl<'f, 't, K: WeightKind> Level<'f, 't, K> {
         ensures { Writes K.kind (Under (lists_at self.old) y) self.old self.new }
     {
         let family = self.family;
-        let rule = family.rule(y);
-        for a in 0..rule.count {
-            self.fill_alternative(family.alternative(rule.first + a));
+        for alternative in family.alternatives(family.rule(y)) {
+            self.fill_alternative(*alternative);
         }
     }
 
@@ -148,11 +147,10 @@ impl<'f, 't, K: WeightKind> Level<'f, 't, K> {
         requires right { (j : ℕ) → j < item_count (rules_at self.now) → Under (lists_at self.now) y j → RightAt K.kind self.now j self.now.size }
         ensures { result ≡ alternatives_value K.kind (rules_at self.now) (value_at K.kind self.now) y self.now.size }
     {
-        let rule = self.family.rule(y);
         let mut total = K::nothing();
-        for a in 0..rule.count {
+        for alternative in self.family.alternatives(self.family.rule(y)) {
             let whole = Tail {
-                alternative: self.family.alternative(rule.first + a),
+                alternative: *alternative,
                 slot: 0,
             };
             total = total.plus(self.rest_total(whole, self.size));
