@@ -28,7 +28,7 @@ fn is_digit(b: u8) -> bool
 }
 
 // Whether the byte may stand in a name, behind its first letter.
-fn is_name_byte(b: u8) -> bool
+pub fn is_name_byte(b: u8) -> bool
     ensures { result ≡ name_byte b }
 {
     is_letter(b) || is_digit(b) || b == b'_'

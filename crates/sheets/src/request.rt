@@ -2,6 +2,7 @@
 ghost use Rattle.std.specs.Prelude.{◌<◌, ◌^◌};
 
 use files::fault::{Fault, Span};
+use files::lexer::is_name_byte;
 use std::str;
 
 // The first line has another form.
@@ -39,10 +40,6 @@ pub(crate) struct Request<'a> {
     ghost small: { top < 2 ^ 16 },
 }
 
-fn is_name_byte(b: &u8) -> bool {
-    b.is_ascii_alphanumeric() || *b == b'_'
-}
-
 // The longest front of bytes that `is_in` takes, and what is behind it.
 fn split_run<F: Fn(&u8) -> bool>(input: &[u8], is_in: F) -> (&[u8], &[u8])
     requires { F.IsAlwaysCallable is_in }
@@ -64,7 +61,7 @@ impl<'a> TryFrom<&'a [u8]> for Request<'a> {
     type Error = Fault;
 
     fn try_from(input: &'a [u8]) -> Result<Request<'a>, Fault> {
-        let (name, rest) = split_run(input, is_name_byte);
+        let (name, rest) = split_run(input, |b| is_name_byte(*b));
         if !name.first().is_some_and(u8::is_ascii_alphabetic) {
             return Err(MALFORMED);
         }
