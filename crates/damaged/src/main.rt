@@ -64,10 +64,7 @@ impl<W: Write> Sheet<W> {
         if let Fault::OutOfMemory = fault {
             return Err(out_of_memory(fault));
         }
-        let number = fault.number();
-        let place = fault.place();
-        let length = fault.length();
-        writeln!(self.out, "{number} {place} {length} 0 0 -")
+        writeln!(self.out, "{fault} 0 0 -")
     }
 
     // The line of one edit.
@@ -90,12 +87,11 @@ impl<W: Write> Sheet<W> {
 
     // The lines of a file: undamaged, and damaged in each place.
     fn write_file(&mut self, number: usize, file: &[u8]) -> io::Result<()> {
-        let place = 0;
         self.write_case(
             Spot {
                 number,
                 file,
-                place,
+                place: 0,
             },
             Edit::Whole,
         )?;

@@ -46,7 +46,7 @@ impl<O: SplitOrder> Numbering<'_, O> {
             }
             left -= both;
         }
-        // A number below the tail's count has fallen into a split by now.
+        // A number below the tail's count has fallen into a split by now; an Option would leave the answer here to `draw`.
         Split {
             size: at.size,
             item: 0,
@@ -54,7 +54,8 @@ impl<O: SplitOrder> Numbering<'_, O> {
         }
     }
 
-    // The alternative of name y that the number falls into.
+    // The alternative of name y that the number falls into. A pending tail has its alternative's number, so the loop counts
+    // these.
     pub(crate) fn choose(&self, y: usize, size: usize, number: u64) -> Choice
         ensures { result.inside.slot ≡ 0 }
     {
@@ -71,7 +72,7 @@ impl<O: SplitOrder> Numbering<'_, O> {
             }
             left -= count;
         }
-        // A number below the name's count has fallen into an alternative by now.
+        // A number below the name's count has fallen into an alternative by now, as above.
         Choice {
             number: 0,
             inside: Pending::whole(rule.first, size, 0),

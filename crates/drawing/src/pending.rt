@@ -1,4 +1,4 @@
-// Tails: what stands on the stack of a walk.
+// Pending tails: what stands on the stack of a walk.
 ghost use Rattle.std.specs.Prelude.{◌≡◌, ◌+◌, ◌<◌, ◌≤◌, IsSome};
 
 use families::family::Family;
@@ -17,7 +17,7 @@ pub struct Pending {
 impl Pending {
     ghost use Rattle.drawing.specs.Tails.{TailOf};
 
-    // A free place for a stack.
+    // A free place for a stack. No `Default`: a struct with a ghost field derives none.
     pub fn vacant() -> Pending
         ensures { TailOf result 0 0 0 0 }
     {

@@ -45,7 +45,7 @@ impl Family {
         self.grammar.alternative(a)
     }
 
-    // The alternatives of the rule, in their order.
+    // The alternatives of the rule, in their order, as far as there are so many.
     pub fn alternatives(&self, rule: Rule) -> &[Alternative]
         ensures { result.now ≡ rule_alternatives self.now.grammar.alternatives.items rule }
     {

@@ -1,5 +1,5 @@
 -- The number, the place and the length of each refusal, for all cases. Assumes nothing.
-use Rattle.std.specs.Prelude.{ℕ, Ok, Err, Result}
+use Rattle.std.specs.Prelude.{ℕ, List, ◌∷◌, ◌++◌, decimal, Ok, Err, Result}
 use Rattle.files.specs.declared.fault.Fault.{Fault}
 use Rattle.files.specs.declared.fault.Fault.TheVariants.{FileTooLong, StrayByte, LongName, BadLiteral, LongDigits, Unexpected, NameTaken, NoRoom, NoRule, UndefinedName, EmptyCycle, TopTooLarge, TableTooShort, WrongEntry, UnknownName, SizeTooLarge, TotalCapped, NumberTooLarge, StackTooShort, ListTooShort, UnknownChoice, WrongEnd, PageTooShort, BadRange, NothingDue, TooFewDue, OutOfMemory}
 
@@ -92,6 +92,10 @@ fault_length BadRange = 0
 fault_length NothingDue = 0
 fault_length TooFewDue = 0
 fault_length OutOfMemory = 0
+
+-- the three as they are printed, with spaces between
+abbrev pub fault_text : Fault → List ℕ
+fault_text e = decimal (fault_number e) ++ (32 ∷ (decimal (fault_place e) ++ (32 ∷ decimal (fault_length e))))
 
 -- what a call answers: a value, or a refusal by its number, place and length
 pub data Answer (X : Type 0) : Type 0 where

@@ -1,9 +1,10 @@
 // The refusals, one for each question that a call may ask.
-ghost use Rattle.std.specs.Prelude.{◌≡◌};
-ghost use Rattle.files.specs.Faults.{fault_number, fault_place, fault_length};
+ghost use Rattle.std.specs.Prelude.{◌≡◌, Some};
+ghost use Rattle.files.specs.Faults.{fault_number, fault_place, fault_length, fault_text};
 ghost use Rattle.files.specs.declared.fault.Fault.TheVariants.{OutOfMemory};
 
 use std::alloc::AllocError;
+use std::fmt;
 
 // A part of a file, or of a choice list: where it begins, and how far it reaches.
 #[derive(Clone, Copy)]
@@ -81,16 +82,20 @@ impl Fault {
         }
     }
 
-    // Where it is: a byte of the file, an index of the table or a place in the choice list; 0 where nothing is said.
-    pub fn place(self) -> usize
-        ensures { result ≡ fault_place self }
+    // Where it is, and how far it reaches; 0 and 0 where nothing is said.
+    fn span(self) -> Span
+        ensures place { result.place ≡ fault_place self }
+        ensures length { result.length ≡ fault_length self }
     {
         match self {
-            Fault::StrayByte { place } => place,
-            Fault::BadLiteral { place } => place,
-            Fault::NoRule { place } => place,
-            Fault::UnknownChoice { place } => place,
-            Fault::WrongEntry { index } => index,
+            Fault::StrayByte { place }
+            | Fault::BadLiteral { place }
+            | Fault::UnknownChoice { place } => Span { place, length: 1 },
+            Fault::WrongEntry { index } => Span {
+                place: index,
+                length: 1,
+            },
+            Fault::NoRule { place } => Span { place, length: 0 },
             Fault::LongName(at)
             | Fault::LongDigits(at)
             | Fault::Unexpected(at)
@@ -98,30 +103,38 @@ impl Fault {
             | Fault::NoRoom(at)
             | Fault::UndefinedName(at)
             | Fault::EmptyCycle(at)
-            | Fault::WrongEnd(at) => at.place,
-            _ => 0,
+            | Fault::WrongEnd(at) => at,
+            _ => Span {
+                place: 0,
+                length: 0,
+            },
         }
+    }
+
+    // Where it is: a byte of the file, an index of the table or a place in the choice list; 0 where nothing is said.
+    pub fn place(self) -> usize
+        ensures { result ≡ fault_place self }
+    {
+        self.span().place
     }
 
     // How far it reaches; 0 where nothing is said.
     pub fn length(self) -> usize
         ensures { result ≡ fault_length self }
     {
-        match self {
-            Fault::StrayByte { .. }
-            | Fault::BadLiteral { .. }
-            | Fault::WrongEntry { .. }
-            | Fault::UnknownChoice { .. } => 1,
-            Fault::LongName(at)
-            | Fault::LongDigits(at)
-            | Fault::Unexpected(at)
-            | Fault::NameTaken(at)
-            | Fault::NoRoom(at)
-            | Fault::UndefinedName(at)
-            | Fault::EmptyCycle(at)
-            | Fault::WrongEnd(at) => at.length,
-            _ => 0,
-        }
+        self.span().length
+    }
+}
+
+// The number, the place and the length, as a sheet has them.
+impl fmt::Display for Fault {
+    ghost output = { λ e. Some (fault_text e) };
+
+    fn fmt<W: fmt::Write>(&self, f: &mut fmt::Formatter<W>) -> fmt::Result {
+        let number = self.number();
+        let place = self.place();
+        let length = self.length();
+        write!(f, "{number} {place} {length}")
     }
 }
 

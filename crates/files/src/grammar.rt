@@ -3,7 +3,8 @@ ghost use Rattle.std.specs.Prelude.{◌≡◌, ◌≤◌, length, vec_len, vec_c
 
 use crate::item::{Alternative, Label, Rule};
 
-// At most 32 rules, 64 alternatives and 128 items; each item has a label.
+// At most 32 rules, 64 alternatives and 128 items; each item has a label. A rule has its alternatives by the number of the
+// first and how many they are, not in a `Vec` of its own: reading a file asks for no memory.
 #[derive(Drop)]
 pub struct Grammar {
     pub(crate) rules: Vec<Rule>,

@@ -66,7 +66,7 @@ impl Label {
     }
 }
 
-// What stands in one of an alternative's six places. `Use` is a name as it was read, by its label;
+// What stands in one of an alternative's six places; `Vacant` is a free place. `Use` is a name as it was read, by its label;
 // `Name` is a name by its number.
 #[derive(Clone, Copy, Default)]
 pub enum Item {
@@ -78,7 +78,8 @@ pub enum Item {
 }
 
 impl Item {
-    // The item with another size, where it has one.
+    // The item with another size, where it has one. This and the next write different fields; one function of both would
+    // be longer.
     fn resized(self, size: u32) -> Item
         ensures { result ≡ resized self size }
     {
@@ -188,7 +189,8 @@ fn digit_value(b: u8) -> u32
     u32::from(b.saturating_sub(b'0'))
 }
 
-// The number that a run of one to four digits stands for.
+// The number that a run of one to four digits stands for. A `for`, since `fold` asks that its closure may be called with
+// any sum, also one that is too large.
 #[tactic(auto, using(crate::proofs::Digits::few))]
 pub(crate) fn decimal_value(run: DigitRun<'_>) -> u32
     ensures { result ≡ decimal run.entry.bytes.now }

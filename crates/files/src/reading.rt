@@ -31,10 +31,9 @@ impl Grammar {
             return Ok(item);
         };
         let label = self.label(label);
-        match self.index(label.text()) {
-            Some(number) => Ok(Item::Name { number }),
-            None => Err(Fault::UndefinedName(label.span())),
-        }
+        let found = self.index(label.text());
+        let number = found.ok_or(Fault::UndefinedName(label.span()))?;
+        Ok(Item::Name { number })
     }
 
     fn resolve_alternative(&self, alternative: Alternative) -> Result<Alternative, Fault>
@@ -47,7 +46,8 @@ impl Grammar {
         Ok(resolved)
     }
 
-    // Puts numbers in the place of all labels of names; at a refusal some may be done.
+    // Puts numbers in the place of all labels of names; at a refusal some may be done. An index, since each row is made by
+    // all of `self`, and a proof knows nothing of rows that `iter_mut` lends.
     fn resolve_all(&mut self) -> Result<(), Fault>
         ensures { lists_answer result (lists_of self.new) ≡ resolved (lists_of self.old) }
     {

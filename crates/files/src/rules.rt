@@ -8,7 +8,7 @@ use crate::grammar::Grammar;
 use crate::item::{Alternative, Label, Rule};
 use std::alloc::Global;
 
-// Puts copies of `from` in the place of what `to` held; the memory is there.
+// Puts copies of `from` in the place of what `to` held; the memory is there. `clone_from` would ask for some.
 fn copy_all<T: Copy>(to: &mut Vec<T>, from: &[T])
     requires { length from.now ≤ vec_capacity to.old }
     ensures items { to.new.items ≡ from.now }
@@ -72,7 +72,7 @@ impl Grammar {
         self.alternatives.get(a).copied().unwrap_or_default()
     }
 
-    // The alternatives of the rule, in their order.
+    // The alternatives of the rule, in their order, as far as there are so many.
     pub fn alternatives(&self, rule: Rule) -> &[Alternative]
         ensures { result.now ≡ rule_alternatives self.now.alternatives.items rule }
     {

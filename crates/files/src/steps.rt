@@ -30,7 +30,7 @@ impl Reader {
         })
     }
 
-    // Ready for a new file.
+    // Ready for a new file. The four fields begin as in `new`; a struct of the four would stand in each line of the steps.
     #[tactic(auto, using(crate::proofs::Defaults::label_default))]
     pub(crate) fn restart(&mut self)
         ensures { reading_of self.new ≡ fresh }
@@ -77,9 +77,7 @@ impl Reader {
             return Err(Fault::NoRoom(at));
         }
         self.grammar.alternatives.push_reserved(self.current);
-        self.current = Alternative::new(self.grammar.labels.len());
-        self.state = State::Items;
-        Ok(())
+        self.begin_alternative(at)
     }
 
     fn end_rule(&mut self)

@@ -81,6 +81,7 @@ impl<W: Write> Sheet<'_, W> {
         Ok(())
     }
 
+    // The line of names. Two headings: an `impl Display` of the format would be longer.
     fn write_heading(&mut self) -> io::Result<()> {
         match self.asked.request.format {
             Format::Choices => writeln!(self.out, "size number choices"),
@@ -91,7 +92,7 @@ impl<W: Write> Sheet<'_, W> {
     // The lines of all sizes, behind the line of names.
     fn write_sizes(&mut self) -> Result<(), Stop> {
         self.write_heading()?;
-        for size in 0..self.opened.top() + 1 {
+        for size in 0..=self.opened.top() {
             self.write_size(size)?;
         }
         Ok(())

@@ -1,8 +1,8 @@
 // The lines of the sheets: one space between the values and a line feed after each line. Each is put behind what
 // the buffer holds.
-ghost use Rattle.std.specs.Prelude.{◌≡◌, [], ◌∷◌, ◌++◌, decimal, OnOk, Some};
+ghost use Rattle.std.specs.Prelude.{◌≡◌, ◌++◌, decimal, OnOk, Some};
 ghost use Rattle.files.specs.Faults.{fault_number, fault_place, fault_length};
-ghost use Rattle.sheets.specs.Lines.{dotted, choice_line, text_line, total_line, refusal_lines, shown_text, values};
+ghost use Rattle.sheets.specs.Lines.{dotted, choice_line, text_line, total_line, refusal_lines, shown_text};
 
 use files::fault::Fault;
 use std::alloc::{AllocError, Global};
@@ -60,7 +60,7 @@ pub fn push_choice_line(
     line.extend_from_slice(text.as_bytes())
 }
 
-// A line of a text sheet.
+// A line of a text sheet. The text is bytes, so it is put as such, and not printed as in a choice sheet's line.
 pub fn push_text_line(
     line: &mut Vec<u8>,
     heap: Global,
@@ -94,25 +94,12 @@ pub fn push_total_line(
     line.extend_from_slice(values.as_bytes())
 }
 
-// The values of a refusal.
-fn push_values(
-    line: &mut Vec<u8>,
-    heap: Global,
-    number: u8,
-    place: usize,
-    length: usize,
-) -> Result<(), AllocError>
-    ensures { OnOk result (line.new.items ≡ line.old.items ++ (values number place ++ (decimal length ++ 10 ∷ []))) }
-{
-    let text = format!(in heap; "{number} {place} {length}\n")?;
-    line.extend_from_slice(text.as_bytes())
-}
-
 // The line of names and the values of a refusal.
 pub fn push_refusal(line: &mut Vec<u8>, heap: Global, fault: Fault) -> Result<(), AllocError>
     ensures { OnOk result (line.new.items ≡ line.old.items ++ refusal_lines (fault_number fault) (fault_place fault) (fault_length fault)) }
 {
+    let values = format!(in heap; "{fault}\n")?;
     line.extend_from_slice(b"refused place length\n")?;
-    push_values(line, heap, fault.number(), fault.place(), fault.length())?;
+    line.extend_from_slice(values.as_bytes())?;
     Ok(())
 }

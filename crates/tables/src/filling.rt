@@ -87,7 +87,8 @@ impl<'f, 't, K: WeightKind> Level<'f, 't, K> {
         }
     }
 
-    // What a tail totals: over all splits, the item's total times the rest's.
+    // What a tail totals: over all splits, the item's total times the rest's. A `for`, since `fold` asks that its closure may
+    // be called with any size.
     fn tail_total(&self, tail: Tail) -> K
         requires stands { Stands (lists_at self.now) tail.alternative }
         requires there { tail.slot < tail.alternative.count }

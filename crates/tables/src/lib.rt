@@ -2,15 +2,15 @@
 #![tactic(auto)]
 
 pub mod cheapest;
-pub(crate) mod checked;
+mod checked;
 pub mod count;
 pub mod filling;
 pub mod kind;
-pub(crate) mod level;
+mod level;
 pub mod meanings;
 pub mod open_table;
-pub mod opening;
+mod opening;
 pub mod scratch;
-pub mod shape;
-pub mod shaping;
+mod shape;
+mod shaping;
 pub mod tail;

@@ -96,14 +96,14 @@ impl<'f, 't> OpenTable<'f, 't> {
         self.checked.map(|checked| checked.family)
     }
 
-    // How many names there are.
+    // How many names there are; 0 where none is open.
     pub fn names(&self) -> usize
         ensures { result ≡ names_open (family_open self.now) }
     {
         self.checked.map_or(0, |checked| checked.family.names())
     }
 
-    // The largest size.
+    // The largest size; 0 where none is open.
     pub fn top(&self) -> usize
         ensures { result ≡ top_open self.now }
     {

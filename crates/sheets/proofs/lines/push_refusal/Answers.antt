@@ -1,7 +1,6 @@
-use Rattle.std.proofs.Common.{◌∙◌, append_assoc}
+use Rattle.std.proofs.Common.{◌∙◌, append_assoc, refl}
 use Rattle.sheets.proofs.lines.push_refusal.Goals as goal
 
 pub returns : goal.returns
 returns c =
-    rw (← c.number.ensures, ← c.place.ensures, ← c.length.ensures)
-    (c.in_ok-push_values.ensures ∙ rw (c.in_ok-extend_from_slice.ensures.items) (append_assoc c.args.line.now.items _ _))
+    c.in_ok-extend_from_slice-2.ensures.items ∙ rw (c.in_ok-extend_from_slice.ensures.items, c.as_bytes.ensures.value, c.in_ok-values.ensures.ok) (simp append_assoc refl)
