@@ -6,6 +6,7 @@ use crate::numbering::Numbering;
 use crate::order::SplitOrder;
 use crate::pending::Pending;
 use files::item::Item;
+use tables::tail::Tail;
 
 // A split: the item's size and number, and the rest's number.
 #[derive(Clone, Copy)]
@@ -54,20 +55,22 @@ impl<O: SplitOrder> Numbering<'_, O> {
         }
     }
 
-    // The alternative of name y that the number falls into. A pending tail has its alternative's number, so the loop counts
-    // these.
+    // The alternative of name y that the number falls into.
     pub(crate) fn choose(&self, y: usize, size: usize, number: u64) -> Choice
         ensures { result.inside.slot ≡ 0 }
     {
         let rule = self.family.rule(y);
         let mut left = number;
-        for a in 0..rule.count.min(64) {
-            let inside = Pending::whole(rule.first.saturating_add(a), size, left);
-            let count = self.tail_count(inside.tail(self.family), size);
+        for (a, alternative) in self.family.alternatives(rule).iter().enumerate() {
+            let whole = Tail {
+                alternative: *alternative,
+                slot: 0,
+            };
+            let count = self.tail_count(whole, size);
             if left < count {
                 return Choice {
                     number: a as u8,
-                    inside,
+                    inside: Pending::whole(rule.first.saturating_add(a), size, left),
                 };
             }
             left -= count;

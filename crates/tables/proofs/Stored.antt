@@ -1,11 +1,11 @@
 -- What stored rules are as names, alternatives and numbered items. Assumes nothing.
-use Rattle.std.proofs.Common.{◌≡◌, ℕ, zero, suc, ◌+◌, ◌<◌, ◌≤◌, List, [], ◌∷◌, map, length, get_or, take, drop, sym, ap, ◌∙◌, subst, ap₂, le_of_suc-le-suc, not-suc-le-zero, arith, length-drop, length-take-le, get_or-drop, get_or-take}
+use Rattle.std.proofs.Common.{◌≡◌, ℕ, zero, suc, ◌+◌, ◌<◌, ◌≤◌, List, [], ◌∷◌, map, length, get_or, take, drop, sym, ap, ◌∙◌, subst, ap₂, le_of_suc-le-suc, not-suc-le-zero, arith, length-take-le, get_or-take}
 use Rattle.std.proofs.lemmas.List.{length-map, get_or-map}
 use Rattle.theory.specs.Families.{Item as Symbol, alternatives, alternative, Known, Defined, item_count, tail_at, first_item, ItemAt}
 use Rattle.theory.specs.Nullable.{Ranks}
 use Rattle.theory.specs.Tables.{rows}
 use Rattle.theory.proofs.Items.{items_numbered}
-use Rattle.files.specs.Items.{item_at, no_items}
+use Rattle.files.specs.Items.{item_at}
 use Rattle.files.specs.Grammars.{Lists, lists_of, rule_at, alternative_at, rule_alternatives}
 use Rattle.files.specs.Models.{item_model, alternative_model, rule_model, model}
 use Rattle.files.proofs.Places.{listed_at, count_is, alternative_is}
@@ -14,7 +14,6 @@ use Rattle.families.specs.declared.family.Family.{Family}
 use Rattle.files.specs.declared.item.Item.{Item}
 use Rattle.files.specs.declared.item.Item.TheVariants.{Vacant, Use, Name, Literal}
 use Rattle.files.specs.declared.item.Label.{Label}
-use Rattle.files.specs.declared.item.Rule.{Rule}
 use Rattle.files.specs.declared.item.Alternative.{Alternative}
 use Rattle.tables.specs.Tables.{rules_of, rows_of}
 use Rattle.tables.specs.Fillings.{Below, Stands, Of, Under}
