@@ -55,7 +55,8 @@ impl<O: SplitOrder> Numbering<'_, O> {
         }
     }
 
-    // The alternative of name y that the number falls into.
+    // The alternative of name y that the number falls into. A loop of its own: one with `choose_split` would compute the
+    // split twice.
     pub(crate) fn choose(&self, y: usize, size: usize, number: u64) -> Choice
         ensures { result.inside.slot ≡ 0 }
     {

@@ -13,7 +13,8 @@ use crate::stack::Stack;
 use files::fault::Fault;
 use tables::open_table::OpenTable;
 
-// Writes the choices of the layout that begins with a choice, and answers how many there are.
+// Writes the choices of the layout that begins with a choice, and answers how many there are. The two pushes stand apart: a
+// function of both would have to repeat what `Stack::push` ensures.
 fn visit<O: SplitOrder>(
     numbering: &Numbering<'_, O>,
     first: Choice,
@@ -59,15 +60,14 @@ pub fn draw<O: SplitOrder>(
 ) -> Result<usize, Fault>
     ensures { Draws result opened.now name size number list.old list.new (length stack.old) }
 {
-    let Some(family) = opened.family() else {
-        return Err(Fault::UnknownName);
-    };
+    let family = opened.family().ok_or(Fault::UnknownName)?;
     if name >= family.names() {
         return Err(Fault::UnknownName);
     }
     if size > opened.top() {
         return Err(Fault::SizeTooLarge);
     }
+    // The largest count stands for that many or more.
     let total = opened.count(name, size);
     if total == u64::MAX {
         return Err(Fault::TotalCapped);

@@ -55,13 +55,11 @@ impl<'w> Walk<'w> {
         ensures same { (self.new.descent ≡ self.old.descent) × (self.new.list ≡ self.old.list) }
         ensures chosen { IfOk result (λ p. (self.new.read ≡ self.old.read + 1) × (p.slot ≡ 0)) }
     {
-        let Some(choice) = self.list.get(self.read) else {
-            return Err(Fault::WrongEnd(Span {
-                place: self.list.len(),
-                length: 0,
-            }));
-        };
-        let choice = usize::from(*choice);
+        let end = Fault::WrongEnd(Span {
+            place: self.list.len(),
+            length: 0,
+        });
+        let choice = usize::from(*self.list.get(self.read).ok_or(end)?);
         let rule = self.descent.family.rule(y);
         if choice >= rule.count {
             return Err(Fault::UnknownChoice { place: self.read });

@@ -47,7 +47,7 @@ pub enum Fault {
 }
 
 impl Fault {
-    // The number of the question; 0 for want of memory.
+    // The number of the question, as sheets have it; 0 for want of memory.
     pub fn number(self) -> u8
         ensures { result ≡ fault_number self }
     {

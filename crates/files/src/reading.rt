@@ -47,7 +47,7 @@ impl Grammar {
     }
 
     // Puts numbers in the place of all labels of names; at a refusal some may be done. An index, since each row is made by
-    // all of `self`, and a proof knows nothing of rows that `iter_mut` lends.
+    // all of `self`, which can't be read while `iter_mut` lends its alternatives.
     fn resolve_all(&mut self) -> Result<(), Fault>
         ensures { lists_answer result (lists_of self.new) ≡ resolved (lists_of self.old) }
     {

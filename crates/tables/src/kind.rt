@@ -9,7 +9,8 @@ use crate::cheapest::Cheapest;
 use crate::count::Count;
 
 // A weight kind: its values with a none, a unit, a sum, a product and a weight for each cost, and the laws of a semiring.
-// `LETTER` is what the totals sheet prints for it, and `show` how it prints a value: a number, or absent.
+// `LETTER` is what the totals sheet prints for it, and `show` how it prints a value: a number, or absent. It has its own
+// `kind`, and not that of theory's `Weight`, so that clauses say `K.kind`.
 pub trait WeightKind: Copy {
     const LETTER: u8;
 
