@@ -39,7 +39,9 @@ impl<'d> Descent<'d> {
         ensures begins { IsSome result → self.new.current.slot < 6 }
     {
         loop {
-            let item = self.current.tail(self.family).first();
+            let item = self
+                .family
+                .item(self.current.alternative, self.current.slot);
             if item.is_some() {
                 return item;
             }

@@ -1,5 +1,5 @@
 // Walking along a choice list: the layout that it tells, item by item.
-ghost use Rattle.std.specs.Prelude.{◌≡◌, ℕ, ◌+◌, ◌-◌, ◌*◌, ◌<◌, ◌≤◌, length, IfOk, ◌≢◌};
+ghost use Rattle.std.specs.Prelude.{◌≡◌, ℕ, ◌+◌, ◌-◌, ◌*◌, ◌<◌, ◌≤◌, length, IfOk, IfErr, ◌≢◌};
 
 use crate::descent::Descent;
 use crate::pending::Pending;
@@ -20,7 +20,7 @@ pub(crate) struct Walk<'w> {
 }
 
 impl<'w> Walk<'w> {
-    ghost use Rattle.drawing.specs.Walks.{left, SamePlaces};
+    ghost use Rattle.drawing.specs.Walks.{left, SamePlaces, Standing};
 
     // Before the first choice.
     pub(crate) fn new(
@@ -42,7 +42,8 @@ impl<'w> Walk<'w> {
 
     // Goes to the beginning of the layout.
     pub(crate) fn begin(&mut self) -> Result<(), Fault>
-        ensures { SamePlaces self.old self.new }
+        ensures same { SamePlaces self.old self.new }
+        ensures begun { IfOk result (λ _. (self.new.read ≡ 1) × (self.new.descent.pending.height ≡ 0)) }
     {
         self.read = 0;
         self.descent.pending.clear();
@@ -54,6 +55,7 @@ impl<'w> Walk<'w> {
     fn choose(&mut self, y: usize) -> Result<Pending, Fault>
         ensures same { (self.new.descent ≡ self.old.descent) × (self.new.list ≡ self.old.list) }
         ensures chosen { IfOk result (λ p. (self.new.read ≡ self.old.read + 1) × (p.slot ≡ 0)) }
+        ensures refused { IfErr result (λ _. self.new.read ≡ self.old.read) }
     {
         let end = Fault::WrongEnd(Span {
             place: self.list.len(),
@@ -71,6 +73,7 @@ impl<'w> Walk<'w> {
     // The next item, if the layout has one more; where it is a name, the walk goes on inside it.
     pub(crate) fn next_item(&mut self) -> Result<Option<Item>, Fault>
         ensures same { SamePlaces self.old self.new }
+        ensures standing { Standing self.old → Standing self.new }
         ensures onward { IfOk result (λ m. m ≢ None → left self.new < left self.old) }
     {
         let Some(item) = self.descent.next_item() else {

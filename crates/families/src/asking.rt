@@ -1,10 +1,11 @@
 // What a family is asked for.
-ghost use Rattle.std.specs.Prelude.{◌≡◌, ℕ, ◌+◌, ◌<◌, ◌≤◌, true, false, length, Some, None, vec_len, slice_index, slice_index_or};
+ghost use Rattle.std.specs.Prelude.{◌≡◌, ℕ, ◌+◌, ◌<◌, ◌≤◌, true, false, length, Some, None, IsSome, vec_len, slice_index, slice_index_or};
 ghost use Rattle.files.specs.Grammars.{rule_at, alternative_at, rule_alternatives, label_at, found_name};
+ghost use Rattle.files.specs.Items.{item_in};
 ghost use Rattle.families.specs.Finds.{Finds};
 
 use crate::family::Family;
-use files::item::{Alternative, Label, Rule};
+use files::item::{Alternative, Item, Label, Rule};
 
 impl Family {
     // How many names there are.
@@ -43,6 +44,14 @@ impl Family {
         ensures { result ≡ alternative_at self.now.grammar.alternatives.items a }
     {
         self.grammar.alternative(a)
+    }
+
+    // The item at a place of alternative a, if one stands there.
+    pub fn item(&self, a: usize, slot: usize) -> Option<Item>
+        ensures item { result ≡ item_in (alternative_at self.now.grammar.alternatives.items a) slot }
+        ensures inside { IsSome result → slot < 6 }
+    {
+        self.grammar.item(a, slot)
     }
 
     // The alternatives of the rule, in their order, as far as there are so many.

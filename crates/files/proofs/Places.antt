@@ -1,13 +1,17 @@
 -- The stored rules, alternative by alternative, as the family that they mean. Assumes nothing.
-use Rattle.std.proofs.Common.{◌≡◌, ℕ, ◌+◌, ◌-◌, ◌<◌, ◌≤◌, min, List, [], length, get_or, drop, sym, ap, ◌∙◌, ⊎_elim, arith}
+use Rattle.std.proofs.Common.{◌≡◌, ℕ, ◌+◌, ◌-◌, ◌<◌, ◌≤◌, min, List, [], length, get_or, drop, sym, ap, ◌∙◌, subst, ⊎_elim, arith}
 use Rattle.std.proofs.lemmas.Bool.{cases_lt}
 use Rattle.std.proofs.lemmas.List.{get_or-map, get_or_past, get_or_default, get_or-take, get_or-drop, length-map, length-take, length-drop}
 use Rattle.theory.specs.Families.{Item as Symbol, alternatives, alternative}
 use Rattle.files.specs.Items.{no_items}
 use Rattle.files.specs.Grammars.{Lists, rule_at, alternative_at, rule_alternatives, no_rule}
-use Rattle.files.specs.Models.{alternative_model, rule_model, model}
+use Rattle.files.specs.Models.{alternative_model, rule_model, model, Formed}
 use Rattle.files.specs.declared.item.Alternative.{Alternative}
 use Rattle.files.specs.declared.item.Rule.{Rule}
+
+-- an alternative has at most six items
+abbrev pub FitsSix : Alternative → Type 0
+FitsSix a = (a.count ≤ 6) × (length a.items ≡ 6)
 
 -- an alternative among those of its rule
 pub listed_at : (xs : List Alternative) (r : Rule) (a : ℕ) (e : Alternative) → a < length (rule_alternatives xs r) → (a < r.count) × (get_or (rule_alternatives xs r) a e ≡ alternative_at xs (r.first + a))
@@ -56,3 +60,18 @@ module _ (l : Lists) where
       where
         there : a < length (rule_alternatives l.alternatives (rule_at l.rules y))
         there = omega (arith, ap length (rule_is y), length-map (rule_alternatives l.alternatives (rule_at l.rules y)) (alternative_model l.labels), count_is y)
+
+  module _ (formed : Formed l) where
+    pub six_at : (y a : ℕ) → a < (rule_at l.rules y).count → FitsSix (alternative_at l.alternatives ((rule_at l.rules y).first + a))
+    six_at y a h = formed.six _ (within formed.inside y a h)
+
+    -- the alternative that was looked up
+    pub stored : (y a s : ℕ) (r : Rule) (x : Alternative) → r ≡ rule_at l.rules y → a < r.count → s ≡ r.first + a → x ≡ alternative_at l.alternatives s →
+        FitsSix x × (a < length (alternatives (model l) y)) × (alternative (model l) y a ≡ alternative_model l.labels x)
+    stored y a s r x e h p q =
+        let k : a < (rule_at l.rules y).count = subst (λ (v : Rule). a < v.count) e h in
+        let w : x ≡ alternative_at l.alternatives ((rule_at l.rules y).first + a) = q ∙ ap (alternative_at l.alternatives) (p ∙ ap (λ v. v.first + a) e) in
+        (subst FitsSix (sym w) (six_at y a k), omega (arith, count_is formed.inside y), alternative_is formed.inside y a k ∙ ap (alternative_model l.labels) (sym w))
+
+    pub low : (y a : ℕ) (r : Rule) → r ≡ rule_at l.rules y → a < r.count → r.first + a < 64
+    low y a r e h = subst (λ (v : Rule). v.first + a < 64) (sym e) (omega (arith, within formed.inside y a (subst (λ (v : Rule). a < v.count) e h), formed.few_alternatives))

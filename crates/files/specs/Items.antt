@@ -1,5 +1,5 @@
 -- Labels, items and alternatives. Assumes nothing.
-use Rattle.std.specs.Prelude.{ℕ, ◌+◌, ◌-◌, ◌*◌, List, ◌++◌, length, take, drop, replicate, fold, slice_index_or, slice_set}
+use Rattle.std.specs.Prelude.{ℕ, ◌+◌, ◌-◌, ◌*◌, List, ◌++◌, length, take, drop, replicate, fold, slice_get, slice_index_or, slice_set, Option, None, if◌then◌else◌, nat_lt}
 use Rattle.files.specs.declared.item.Label.{Label}
 use Rattle.files.specs.declared.item.Item.{Item}
 use Rattle.files.specs.declared.item.Item.TheVariants.{Vacant, Use, Name, Literal}
@@ -30,6 +30,10 @@ recosted (Literal l s c) n = Literal l s n
 
 abbrev pub item_at : Alternative → ℕ → Item
 item_at a i = slice_index_or a.items i Vacant
+
+-- the item at place i, if one stands there
+abbrev pub item_in : Alternative → ℕ → Option Item
+item_in a i = if nat_lt i a.count then slice_get a.items i else None
 
 -- an alternative without items, whose first would have the number j
 abbrev pub no_items : ℕ → Alternative

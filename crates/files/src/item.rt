@@ -4,7 +4,7 @@ ghost use Rattle.std.specs.Str.{bytes_eq};
 ghost use Rattle.files.specs.Items.{label_of, text_of, item_at, no_items, with_item, with_put, with_size, with_cost, resized, recosted, decimal};
 
 use crate::fault::Span;
-use crate::text::{DigitRun, Word};
+use crate::text::{DigitRun, Text};
 
 // A name or a literal's text, as it was read, with the place in the file where its token begins.
 #[derive(Clone, Copy, Default)]
@@ -15,7 +15,9 @@ pub struct Label {
 }
 
 impl Label {
-    pub(crate) fn new(text: Word<'_>, place: usize) -> Label
+    // A name's text or a literal's, whose bounds are types of their own.
+    pub(crate) fn new<const MOST: usize>(text: Text<'_, MOST>, place: usize) -> Label
+        requires { MOST ≤ 24 }
         ensures { result ≡ label_of text.entry.bytes.now place }
     {
         let text = text.bytes();
@@ -150,27 +152,21 @@ impl Alternative {
         Alternative { items, ..self }
     }
 
-    // The alternative with its last item changed.
-    fn with_last<F: FnOnce(Item) -> Item>(self, change: F) -> Alternative
-        requires { F.IsAlwaysCallable change }
-        ensures { (item : Item) × F.post change (item_at self (self.count - 1)) item × (result ≡ with_put self (self.count - 1) item) }
-    {
-        let last = self.count.saturating_sub(1);
-        self.with_put(last, change(self.item(last)))
-    }
-
-    // The alternative with another size for its last item.
+    // The alternative with another size for its last item. This and the next go straight to `with_put`: a function of both
+    // would copy the alternative once more.
     pub(crate) fn with_size(self, size: u32) -> Alternative
         ensures { result ≡ with_size self size }
     {
-        self.with_last(|item| item.resized(size))
+        let last = self.count.saturating_sub(1);
+        self.with_put(last, self.item(last).resized(size))
     }
 
     // The alternative with another cost for its last item.
     pub(crate) fn with_cost(self, cost: u32) -> Alternative
         ensures { result ≡ with_cost self cost }
     {
-        self.with_last(|item| item.recosted(cost))
+        let last = self.count.saturating_sub(1);
+        self.with_put(last, self.item(last).recosted(cost))
     }
 }
 

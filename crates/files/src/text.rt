@@ -8,8 +8,11 @@ pub(crate) struct Text<'a, const MOST: usize> {
     ghost short: { length bytes.now ≤ MOST },
 }
 
-// What a name or a literal says.
-pub(crate) type Word<'a> = Text<'a, 24>;
+// What a name says.
+pub(crate) type NameText<'a> = Text<'a, 24>;
+
+// What a literal says.
+pub(crate) type LiteralText<'a> = Text<'a, 24>;
 
 // A run of digits.
 pub(crate) type DigitRun<'a> = Text<'a, 4>;

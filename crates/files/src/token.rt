@@ -4,13 +4,13 @@ ghost use Rattle.files.specs.Scans.{word_of};
 ghost use Rattle.files.specs.Tokens.{written};
 
 use crate::fault::Span;
-use crate::text::{DigitRun, Word};
+use crate::text::{DigitRun, LiteralText, NameText};
 
 // A token is a part of the file: a name, a literal's inside and a digit run borrow the file's bytes.
 #[derive(Clone, Copy)]
 pub(crate) enum Token<'a> {
-    Name(Word<'a>),
-    Literal(Word<'a>),
+    Name(NameText<'a>),
+    Literal(LiteralText<'a>),
     Digits(DigitRun<'a>),
     Equals,
     Bar,

@@ -1,11 +1,12 @@
 -- The items' rows: what writes of them keep, and what they are by the names' rows. Assumes nothing.
-use Rattle.std.proofs.Common.{◌≡◌, ℕ, suc, ◌+◌, ◌-◌, ◌<◌, ◌≤◌, ◌⊎◌, List, ◌∷◌, length, drop, set, sym, ap, ◌∙◌, subst, ap₂, ⊎_elim, add-one, arith, drop-cons}
-use Rattle.std.proofs.lemmas.Bool.{cases_eq}
+use Rattle.std.proofs.Common.{◌≡◌, ℕ, suc, ◌+◌, ◌-◌, ◌<◌, ◌≤◌, cond, eqb, ◌⊎◌, List, ◌∷◌, length, drop, set, sym, ap, ◌∙◌, subst, ap₂, ⊎_elim, add-one, arith, drop-cons}
+use Rattle.std.proofs.lemmas.List.{drop_all}
+use Rattle.std.proofs.lemmas.Bool.{cases_eq, cases_lt}
 use Rattle.theory.specs.Kinds.{Kind, Laws}
 use Rattle.theory.specs.Families.{name, Family as Rules, Defined, item_count, tail_at}
 use Rattle.theory.specs.Lists.{below}
 use Rattle.theory.specs.Totals.{sum_of, item_value, tail_value}
-use Rattle.theory.specs.Tables.{entry_at, item_row, rows}
+use Rattle.theory.specs.Tables.{entry_at, item_row, rows, tail_entry}
 use Rattle.theory.proofs.Items.{tail_known}
 use Rattle.theory.proofs.Sums.{sum_more}
 use Rattle.theory.proofs.Tables.{tail_same}
@@ -16,7 +17,7 @@ use Rattle.files.specs.declared.item.Label.{Label}
 use Rattle.files.specs.declared.item.Alternative.{Alternative}
 use Rattle.tables.specs.Tables.{entries, entry_of}
 use Rattle.tables.specs.Fillings.{Changed, Right, Wrote, Stands}
-use Rattle.tables.proofs.Views.{entry_same, entry_inside, put_changed, changed_wider, changed_then}
+use Rattle.tables.proofs.Views.{entry_same, entry_inside, put_changed, changed_none, changed_wider, changed_then}
 use Rattle.tables.proofs.Stored.{length-alternative, item_there}
 
 module _ {K : Type 0} (o : Kind K) (laws : Laws o) (F : Rules) (defined : Defined F) (N : ℕ) where
@@ -26,6 +27,12 @@ module _ {K : Type 0} (o : Kind K) (laws : Laws o) (F : Rules) (defined : Define
       here ∙ right ∙ sym (tail_same o laws (length F) k (entry_of o N u) (entry_of o N t) same (tail_at F j) k (tail_known F defined j) (omega arith))
 
   module _ (n : ℕ) (low : n ≤ N) where
+    pub wrote_none : (P : ℕ → Type 0) (t : List K) → ((j : ℕ) → P j → ⊥) → Wrote o F N n P t t
+    wrote_none P t none = record { new = λ j h x. absurd (none j x); still = λ j h r. r; changed = changed_none o N n (λ r. length F ≤ r) t }
+
+    pub wrote_fewer : (P R : ℕ → Type 0) (t u : List K) → ((j : ℕ) → R j → P j) → Wrote o F N n P t u → Wrote o F N n R t u
+    wrote_fewer P R t u fewer w = record { new = λ j h x. w.new j h (fewer j x); still = w.still; changed = w.changed }
+
     pub wrote_then : (P Q R : ℕ → Type 0) (t u v : List K) → ((j : ℕ) → R j → P j ⊎ Q j) → Wrote o F N n P t u → Wrote o F N n Q u v → Wrote o F N n R t v
     wrote_then P Q R t u v split a b = record {
       new = λ j h x. ⊎_elim (λ (p : P j). b.still j h (a.new j h p)) (λ (q : Q j). b.new j h q) (split j x);
@@ -88,9 +95,28 @@ split_term o e ls a p n k = o.product (item_value o e (item_model ls (item_at a 
 pub sum_step : {K : Type 0} (o : Kind K) → Laws o → (f : ℕ → K) (k : ℕ) (x y z : K) → x ≡ sum_of o f (below k) → y ≡ f k → z ≡ o.sum x y → z ≡ sum_of o f (below (k + 1))
 sum_step o laws f k x y z p q r = r ∙ ap₂ o.sum p q ∙ sym (ap (λ m. sum_of o f (below m)) (add-one k) ∙ sum_more o laws f k)
 
+-- the entry of what begins at a place of an alternative
+module _ {K : Type 0} (o : Kind K) (e : ℕ → ℕ → K) (ls : List Label) (a : Alternative) (full : a.count ≤ length a.items) (r p n : ℕ) where
+  pub entry_some : p < a.count → tail_entry o e r (drop p (alternative_model ls a)) n ≡ e r n
+  entry_some h = ap (λ z. tail_entry o e r z n) (drop-cons (alternative_model ls a) p (name 0) (omega (arith, length-alternative ls a full)))
+
+  pub entry_past : a.count ≤ p → tail_entry o e r (drop p (alternative_model ls a)) n ≡ cond (eqb n 0) o.unit o.none
+  entry_past h = ap (λ z. tail_entry o e r z n) (drop_all p (alternative_model ls a) (omega (arith, length-alternative ls a full)))
+
+  value_past : a.count ≤ p → tail_value o e (drop p (alternative_model ls a)) n ≡ cond (eqb n 0) o.unit o.none
+  value_past h = ap (λ z. tail_value o e z n) (drop_all p (alternative_model ls a) (omega (arith, length-alternative ls a full)))
+
 module _ {K : Type 0} (o : Kind K) (l : Lists) (a : Alternative) (s : Stands l a) (N : ℕ) (t : List K) where
   filled : a.count ≤ length a.items
   filled = omega (arith, s.six, s.full)
+
+  -- is its value, where that entry is right
+  pub rest_value : (r p n : ℕ) → r ≡ item_row (model l) (a.first + p) → (p < a.count → Right o (model l) N t (a.first + p) n) → tail_entry o (entry_of o N t) r (drop p (alternative_model l.labels a)) n ≡ tail_value o (entry_of o N t) (drop p (alternative_model l.labels a)) n
+  rest_value r p n row right =
+      ⊎_elim
+      (λ (h : p < a.count). entry_some o (entry_of o N t) l.labels a filled r p n h ∙ ap (λ q. entry_of o N t q n) row ∙ right h ∙ ap (λ z. tail_value o (entry_of o N t) z n) (s.tail p h))
+      (λ (h : a.count ≤ p). entry_past o (entry_of o N t) l.labels a filled r p n h ∙ sym (value_past o (entry_of o N t) l.labels a filled r p n h))
+      (cases_lt p a.count)
 
   -- a tail's value by its item and the rest
   pub tail_sum : (p n m : ℕ) → m ≡ suc n → p < a.count → sum_of o (split_term o (entry_of o N t) l.labels a p n) (below m) ≡ tail_value o (entry_of o N t) (tail_at (model l) (a.first + p)) n

@@ -38,6 +38,10 @@ pub trait WeightKind: Copy {
     fn show(self) -> Option<u64>
         ensures { result ≡ shown self };
 
+    // The letter, by a call.
+    fn printed_letter() -> u8
+        ensures { result ≡ LETTER };
+
     ghost laws: { Laws kind };
 }
 
@@ -94,6 +98,10 @@ impl WeightKind for Count {
 
     fn show(self) -> Option<u64> {
         Some(self.value)
+    }
+
+    fn printed_letter() -> u8 {
+        Self::LETTER
     }
 }
 
@@ -152,5 +160,9 @@ impl WeightKind for Cheapest {
         } else {
             Some(u64::from(self.cost))
         }
+    }
+
+    fn printed_letter() -> u8 {
+        Self::LETTER
     }
 }

@@ -11,6 +11,6 @@ pub mod meanings;
 pub mod open_table;
 mod opening;
 pub mod scratch;
-mod shape;
+pub mod shape;
 mod shaping;
 pub mod tail;

@@ -3,7 +3,7 @@ ghost use Rattle.std.specs.Prelude.{◌≤◌};
 
 // How many rows a table has, and the largest size.
 #[derive(Clone, Copy)]
-pub(crate) struct Shape {
+pub struct Shape {
     pub(crate) rows: usize,
     pub(crate) top: usize,
     ghost few: { rows ≤ 160 },
